@@ -1,0 +1,10 @@
+pub mod Rule
+pub mod Limits
+pub mod Slots
+pub mod Entries
+pub mod Objects
+pub mod Found
+pub mod Transactions
+pub mod Answer
+pub mod Legal
+pub mod Step
