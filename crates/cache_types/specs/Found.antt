@@ -8,10 +8,14 @@ use Rattle.cache_types.specs.declared.replies.Hit.{Hit}
 use Rattle.cache_types.specs.Slots.{Slot, slot_for, same_rule, same_slot}
 use Rattle.cache_types.specs.Objects.{Insertion, insertions, slot_of, Renewal, is_finished, is_alive, written}
 
+-- the rule first, and behind it the others without it
+abbrev pub put_first : List (List ℕ) → List (List (List ℕ)) → List (List (List ℕ))
+put_first rule rules = rule ∷ filter (λ other. not (same_rule other rule)) rules
+
 -- each rule once, where it stands first
 abbrev pub each_once : List (List (List ℕ)) → List (List (List ℕ))
 each_once [] = []
-each_once (rule ∷ rules) = rule ∷ filter (λ other. not (same_rule other rule)) (each_once rules)
+each_once (rule ∷ rules) = put_first rule (each_once rules)
 
 -- the rules of a key, the one of the newest insertion first
 abbrev pub rules_of : List Entry → List ℕ → List (List (List ℕ))
@@ -22,13 +26,17 @@ rules_of past key =
 abbrev pub last_in : List Entry → Slot → Option Insertion
 last_in past slot = find (λ (made : Insertion). same_slot (slot_of made) slot) (insertions past)
 
--- the newest insertion in the slot of these headers, rule by rule
-abbrev pub candidates : List Entry → List ℕ → List Field → List Insertion
-candidates past key headers = filter_map (λ rule. last_in past (slot_for key rule headers)) (rules_of past key)
+-- the newest insertion in the slot of these headers, for each of the rules
+abbrev pub candidates : List Entry → List ℕ → List Field → List (List (List ℕ)) → List Insertion
+candidates past key headers rules = filter_map (λ rule. last_in past (slot_for key rule headers)) rules
 
 -- the first of them that is alive
+abbrev pub first_alive : List Entry → List ℕ → List Field → List (List (List ℕ)) → Option Insertion
+first_alive past key headers rules = find (λ (made : Insertion). is_alive past made.object) (candidates past key headers rules)
+
+-- what a lookup finds under the rules of its key
 abbrev pub found : List Entry → List ℕ → List Field → Option Insertion
-found past key headers = find (λ (made : Insertion). is_alive past made.object) (candidates past key headers)
+found past key headers = first_alive past key headers (rules_of past key)
 
 -- the age at a moment, in nanoseconds, at most the greatest number of 64 bits
 abbrev pub age_at : Renewal → ℕ → ℕ

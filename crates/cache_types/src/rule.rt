@@ -58,3 +58,17 @@ impl Copied for Rule {
         })
     }
 }
+
+impl PartialEq for Rule {
+    ghost use Rattle.std.specs.Cmp.{partial_equiv_from_equiv};
+    ghost use Rattle.std.specs.Cmp.Lexicographic.{lists_equiv, nat_list_eq_equiv};
+    ghost use Rattle.cache_types.specs.Slots.{same_rule};
+
+    ghost eq = { same_rule };
+
+    ghost laws = { partial_equiv_from_equiv (lists_equiv nat_list_eq_equiv) };
+
+    fn eq(&self, other: &Rule) -> bool {
+        self.names == other.names
+    }
+}
