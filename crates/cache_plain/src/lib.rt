@@ -8,3 +8,4 @@ mod insertions;
 mod look;
 mod renewals;
 mod slots;
+mod transactions;
