@@ -28,7 +28,7 @@ fn piece_by(object: u64, call: &CacheCall) -> &[u8]
 }
 
 /// The bytes that the entry adds to the object.
-fn piece_of(object: u64, entry: &Entry) -> &[u8]
+pub fn piece_of(object: u64, entry: &Entry) -> &[u8]
     ensures { result.now ≡ piece_of object entry.now }
 {
     if is_done(&entry.reply) {
@@ -86,7 +86,7 @@ pub fn is_finished(entries: &[Entry], object: u64) -> bool
 }
 
 /// The object's insertion is this guest's.
-fn is_made_by(entries: &[Entry], object: u64, guest: u64) -> bool
+pub fn is_made_by(entries: &[Entry], object: u64, guest: u64) -> bool
     ensures { result ≡ is_made_by (newest_first entries.now) object guest }
 {
     match insertion_at(entries, object) {

@@ -60,14 +60,3 @@ length_by past object None = if is_finished past object then Some (length (writt
 
 abbrev pub length_of : List Entry → Insertion → Option ℕ
 length_of past made = length_by past made.object made.writing.length
-
--- what a lookup tells of what it found
-abbrev pub hit_for : List Entry → ℕ → Insertion → Renewal → Hit
-hit_for past moment made renewal = record {
-  object = made.object;
-  age = age_at renewal moment;
-  max_age = renewal.terms.max_age;
-  stale = renewal.terms.stale;
-  length = length_of past made;
-  metadata = renewal.terms.metadata;
-}
