@@ -9,6 +9,10 @@ mod found;
 mod insertions;
 mod look;
 mod parts;
+mod plain;
 mod renewals;
 mod slots;
+mod steps;
 mod transactions;
+
+pub use plain::PlainCache;

@@ -1,5 +1,5 @@
 ghost use Rattle.std.specs.Prelude.{◌≡◌, option_copied};
-ghost use Rattle.cache_types.specs.Entries.{newest_first, entry_at, own_entry, last_moment, asked_in, asked_at, is_made, is_done, is_short, is_told_to_insert, is_end, is_lookup};
+ghost use Rattle.cache_types.specs.Entries.{newest_first, entry_at, own_entry, last_moment, asked_in, asked_at, is_made, is_done, is_short, is_told_to_insert, is_not_yet, is_begin, is_end, is_lookup};
 ghost use Rattle.cache_types.specs.Objects.{hit_of, object_of};
 
 use crate::asked::Asked;
@@ -32,6 +32,18 @@ pub fn is_told_to_insert(reply: &Reply) -> bool
         Reply::Got { bits, .. } => *bits >= 8,
         _ => false,
     }
+}
+
+pub fn is_not_yet(reply: &Reply) -> bool
+    ensures { result ≡ is_not_yet reply.now }
+{
+    matches!(reply, Reply::NotYet)
+}
+
+pub fn is_begin(call: &CacheCall) -> bool
+    ensures { result ≡ is_begin call.now }
+{
+    matches!(call, CacheCall::Begin)
 }
 
 pub fn is_end(call: &CacheCall) -> bool

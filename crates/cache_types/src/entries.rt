@@ -38,6 +38,16 @@ pub struct History {
     entries: Vec<Entry>,
 }
 
+impl From<AllocError> for StepFault {
+    ghost use Rattle.cache_types.specs.declared.entries.StepFault.TheVariants.{OutOfMemory};
+
+    ghost from_gives = { λ _ fault. fault ≡ OutOfMemory };
+
+    fn from(_error: AllocError) -> StepFault {
+        StepFault::OutOfMemory
+    }
+}
+
 impl Model for History {
     ghost use Rattle.std.specs.Prelude.{List};
     ghost use Rattle.cache_types.specs.declared.entries.Entry.{Entry};
