@@ -1,0 +1,31 @@
+//! What the host meets outside of itself: the files that it reads, the sink that it writes to, the links to backends.
+//!
+//! Each is a trait with a count of faults that never falls: an answer `Failed` comes only where the count rose in that
+//! call. A ghost relation for each call says that this call was made, with this answer, whichever object it is, so that a
+//! clause above can tell how many calls were made and which. What an object holds is told where it can be known, as in
+//! memory, and the clauses on it hold where it is told.
+//!
+//! The fakes in memory stand here too. Each fails at the calls that it is told, counted from 1.
+#![tactic(auto)]
+
+mod fault;
+mod files;
+mod link;
+mod mem_files;
+mod mem_sink;
+mod no_link;
+mod null_sink;
+mod plan;
+mod sink;
+
+pub use fault::{Failed, IoFault};
+pub use files::Files;
+pub use link::Link;
+pub use mem_files::{MemFiles, NamedFile};
+pub use mem_sink::MemSink;
+pub use no_link::NoLink;
+pub use null_sink::NullSink;
+pub use sink::Sink;
+
+#[cfg(test)]
+mod tests;
