@@ -8,3 +8,4 @@ pub mod Transactions
 pub mod Answer
 pub mod Legal
 pub mod Step
+pub mod Laws
