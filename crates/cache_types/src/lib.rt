@@ -14,6 +14,8 @@ mod octets;
 mod one_cache;
 mod outer;
 mod replies;
+#[cfg(test)]
+mod rows;
 mod rule;
 
 pub use calls::{CacheCall, Field, Fields, Terms, Writing};
