@@ -13,6 +13,8 @@ mod limits;
 mod octets;
 mod one_cache;
 mod outer;
+#[cfg(test)]
+mod relying;
 mod replies;
 #[cfg(test)]
 mod rows;
