@@ -90,7 +90,7 @@ pub lines_takes : (text : List ℕ) → text_of (whole_lines text) ++ after_line
 lines_takes text = sym (joined_lines (parts_at 10 text)) ∙ join_with_byte-slice_split 10 text
 
 -- one more part before some
-not_last : (line : List ℕ) (parts : List (List ℕ)) → at_end parts ≡ None → (all_but_last (line ∷ parts) ≡ line ∷ all_but_last parts) × (last_of (line ∷ parts) ≡ last_of parts)
+pub not_last : (line : List ℕ) (parts : List (List ℕ)) → at_end parts ≡ None → (all_but_last (line ∷ parts) ≡ line ∷ all_but_last parts) × (last_of (line ∷ parts) ≡ last_of parts)
 not_last line [] some = cc some
 not_last line (next ∷ parts) some = (refl, refl)
 

@@ -1,0 +1,6 @@
+pub mod Calls
+pub mod Run
+pub mod Reading
+pub mod Machine
+pub mod Begins
+pub mod Journal

@@ -1,0 +1,20 @@
+//! The two texts of a run of scripted guests: the run file, which is read, and the journal, which is written.
+//!
+//! A run file is spelled by a function of its value (`run_text`). `read_run` answers a value exactly where the bytes are
+//! its spelling, and otherwise the first line that can't stand where it stands. A journal is the one spelling
+//! (`journal_bytes`) of a history and of a block for each guest.
+#![tactic(auto)]
+
+mod form;
+mod journal;
+mod limits;
+mod machine;
+mod outcome;
+mod outer;
+mod reader;
+mod run;
+mod words;
+
+pub use journal::journal_text;
+pub use reader::read_run;
+pub use run::{Blocks, Line, Lines, Named, Run, RunFault, Step, Steps};

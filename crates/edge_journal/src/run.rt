@@ -1,0 +1,50 @@
+use cache_types::{CacheCall, Items};
+
+/// What stands in a line for the entry that its call names.
+#[derive(Clone, Copy, Debug, PartialEq, Eq)]
+pub enum Named {
+    /// The call names no entry.
+    Nothing,
+    /// The entry of an earlier line of the same guest, counted from 1.
+    Line(u64),
+    /// The number itself.
+    Number(u64),
+}
+
+/// One line of a scripted guest. The call has 0 in the place of the entry that it names.
+#[derive(Debug, Drop)]
+pub struct Line {
+    pub call: CacheCall,
+    pub named: Named,
+}
+
+/// The lines of one guest's block.
+pub type Lines = Items<Line>;
+
+/// The blocks of all guests.
+pub type Blocks = Items<Lines>;
+
+/// One try of a guest's next call: the reading in nanoseconds, and the guest by its block, counted from 1.
+#[derive(Clone, Copy, Debug, PartialEq, Eq)]
+pub struct Step {
+    pub reading: u64,
+    pub player: u32,
+}
+
+/// The steps of a schedule.
+pub type Steps = Items<Step>;
+
+/// What a run file says.
+#[derive(Debug, Drop)]
+pub struct Run {
+    pub guests: Blocks,
+    pub steps: Steps,
+}
+
+/// Why no run was read.
+#[derive(Clone, Copy, Debug, PartialEq, Eq)]
+pub enum RunFault {
+    /// The first line that can't stand where it stands, counted from 1.
+    Line(u32),
+    OutOfMemory,
+}
