@@ -156,3 +156,6 @@ pub fn journal_text(alloc: Global, history: &History, guests: &[Done]) -> Result
     let text = journal(alloc, history.entries(), guests)?;
     Ok(Octets::from_vec(text.into_bytes()))
 }
+
+#[cfg(test)]
+mod tests;

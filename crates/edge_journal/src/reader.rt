@@ -68,3 +68,6 @@ pub fn read_run(alloc: Global, bytes: &[u8]) -> Result<Run, RunFault>
     }
     read_lines(alloc, bytes)
 }
+
+#[cfg(test)]
+mod tests;
