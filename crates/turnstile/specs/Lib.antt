@@ -1,0 +1,4 @@
+pub mod Log
+pub mod Standing
+pub mod Rule
+pub mod Plays
