@@ -1,1 +1,6 @@
 pub mod Logs
+pub mod Lists
+pub mod Seats
+pub mod Turning
+pub mod Passing
+pub mod Closing

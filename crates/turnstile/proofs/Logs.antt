@@ -89,10 +89,10 @@ module _ {E : Type 0} where
           (ap (λ (b : Bool). cond b ((m, x.1) ∷ (n, e) ∷ merged (owned j (suc m) xs) ys) ((n, e) ∷ put_by_number (m, x.1) (merged (owned j (suc m) xs) ys))) t))
       (λ other. rw (owned_miss j m x xs other) (merged_later n e j (suc m) xs ys (omega arith)))
 
-  handed_own : (a b : ℕ) (x : ℕ × E) → x.0 ≡ b → handed a b x ≡ (a, x.1)
+  pub handed_own : (a b : ℕ) (x : ℕ × E) → x.0 ≡ b → handed a b x ≡ (a, x.1)
   handed_own a b x e = ap (λ (t : Bool). (cond t a x.0, x.1)) (eq-eqb x.0 b e)
 
-  handed_other : (a b : ℕ) (x : ℕ × E) → x.0 ≢ b → handed a b x ≡ x
+  pub handed_other : (a b : ℕ) (x : ℕ × E) → x.0 ≢ b → handed a b x ≡ x
   handed_other a b x e = ap (λ (t : Bool). (cond t a x.0, x.1)) (ne_eqb x.0 b e)
 
   -- a seat that takes over another's entries has both, by number

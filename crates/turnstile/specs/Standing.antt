@@ -1,5 +1,5 @@
 -- What a kept value's contracts say of its entries.
-use Rattle.std.specs.Prelude.{◌≡◌, ℕ, ◌==◌, List, [], ◌∷◌, ◌++◌, filter, Bool, true, false, Option, None, Some}
+use Rattle.std.specs.Prelude.{◌≡◌, ℕ, ◌==◌, List, [], ◌∷◌, ◌++◌, filter, Bool, true, false, Option, None, Some, Contains}
 
 -- a new family's number is that of the entry that opens it
 abbrev pub family_number : Option ℕ → ℕ → ℕ
@@ -27,3 +27,8 @@ pub record Fits {T E S : Type 0} (setting : T → S) (first : T → ℕ) (entrie
   pub same_setting : setting value ≡ setting start
   pub same_first : first value ≡ first start
   pub is_sound : sound value
+
+-- the opening entry of the family that is joined is among these
+abbrev pub MayJoin : {E : Type 0} → (E → ℕ) → Option ℕ → List (ℕ × E) → Type 0
+MayJoin family None mine = Unit {0}
+MayJoin {E} family (Some f) mine = (opener : E) × Contains mine (f, opener) × (family opener ≡ f)
