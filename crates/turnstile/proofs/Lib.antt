@@ -4,3 +4,4 @@ pub mod Seats
 pub mod Turning
 pub mod Passing
 pub mod Closing
+pub mod Ending

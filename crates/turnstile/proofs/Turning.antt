@@ -258,3 +258,28 @@ module _ {T E : Type 0} (entries : T → List E) (first : T → ℕ) (fits : T �
             λ other from. let same : start ≡ other = same_some (sym (k.origin live) ∙ from) in
                 subst (λ (t : T). IsShare (entries t) (first t + length (entries t)) family list v.mine) same (share family base next r.log id list v.mine r.older r.families sees k.made),
           ))
+
+  -- the same steps, of a seat whose slots are known
+  abbrev pub Here : Type 0
+  Here = Me (Option T) V
+
+  pub claims_as : (slots id : ℕ) (me : Here) → me.1 ≡ [] → me.0.inside ≡ None → 0 < me.0.parts → Allows Rule slots id me 0 (λ n. either (eqb n 0) 1 n) (Claimed entries first fits family (step slots 0 0 1 none) me)
+  claims_as slots id me empty outside live =
+      subst (λ (c : List (ℕ × Option T)). Allows Rule slots id (me.0, c) 0 (λ n. either (eqb n 0) 1 n) (Claimed entries first fits family (step slots 0 0 1 none) (me.0, c))) (sym empty) (claims slots id me.0 outside live)
+
+  pub publishes_as : (slots id : ℕ) (me : Here) (list : List E) (e : E) (x : T) (joins : Option ℕ) → me.1 ≡ (0, Some x) ∷ [] → 0 < me.0.parts → me.0.inside ≡ Some list → entries x ≡ list ++ e ∷ [] → length (entries x) < 2 ^ 64
+      → MayJoin family joins me.0.mine → family e ≡ family_number joins (first start + length list)
+      → Allows Rule slots id me 1 (λ n. (n + 1) % 2 ^ 64) (Published entries first fits family (step slots 1 1 0 none) me)
+  publishes_as slots id me list e x joins loaded live inside stands room may named =
+      subst (λ (c : List (ℕ × Option T)). Allows Rule slots id (me.0, c) 1 (λ n. (n + 1) % 2 ^ 64) (Published entries first fits family (step slots 1 1 0 none) (me.0, c))) (sym loaded)
+          (publishes slots id me.0 list e x joins live inside stands room may named)
+
+  pub leaves_as : (slots id : ℕ) (me : Here) (list : List E) (x : T) → me.1 ≡ (0, Some x) ∷ [] → slots ≡ 1 → 0 < me.0.parts → me.0.inside ≡ Some list → fits start list x
+      → Allows Rule slots id me 0 (λ _. 0) (Left entries first fits family (step slots 0 0 0 none) me)
+  leaves_as slots id me list x loaded one live inside right =
+      subst (λ (c : List (ℕ × Option T)). Allows Rule slots id (me.0, c) 0 (λ _. 0) (Left entries first fits family (step slots 0 0 0 none) (me.0, c))) (sym loaded) (leaves slots id me.0 list x one live inside right)
+
+  pub leaves_idle_as : (slots id : ℕ) (me : Here) (list : List E) (x : T) → me.1 ≡ (0, Some x) ∷ [] → slots ≡ 1 → 0 < me.0.parts → me.0.inside ≡ Some list → fits start list x
+      → Allows Rule slots id me 0 (λ _. 0) (LeftIdle entries first fits family (step slots 0 0 0 none) me)
+  leaves_idle_as slots id me list x loaded one live inside right =
+      subst (λ (c : List (ℕ × Option T)). Allows Rule slots id (me.0, c) 0 (λ _. 0) (LeftIdle entries first fits family (step slots 0 0 0 none) (me.0, c))) (sym loaded) (leaves_idle slots id me.0 list x one live inside right)

@@ -2,3 +2,4 @@ pub mod Log
 pub mod Standing
 pub mod Rule
 pub mod Plays
+pub mod Pass

@@ -1,8 +1,9 @@
 -- What each step tells the seat that made it.
-use Rattle.std.specs.Prelude.{◌≡◌, ◌≢◌, ℕ, suc, ◌+◌, ◌-◌, ◌<◌, ◌≤◌, nat_le, cond, List, [], ◌∷◌, ◌++◌, length, All, Option, None, Some}
+use Rattle.std.specs.Prelude.{◌≡◌, ◌≢◌, ℕ, suc, ◌+◌, ◌-◌, ◌<◌, ◌≤◌, nat_le, ◌^◌, cond, Bool, List, [], ◌∷◌, ◌++◌, length, All, Option, None, Some}
 use mathlib.Core.List.{IsPrefix}
 use Rattle.atomic_table.specs.Table.{Me, Step}
 use Rattle.turnstile.specs.declared.view.View.{View}
+use Rattle.turnstile.specs.Standing.{Fits, MayJoin, OfFamily, Adds}
 use Rattle.turnstile.specs.Log.{entries_of, owned, merged, Families}
 
 -- There is a log of who added what, in which `seen` is the whole list and `mine` what one seat added.
@@ -79,3 +80,43 @@ module _ {T E : Type 0} where
 
   abbrev pub spent_view : View T E
   spent_view = record { start = None; seen = []; told = []; mine = []; lost = 0; idle = 0; parts = 0; inside = None }
+
+-- the view after a turn in which the value, which stood for this list, gained this entry, if any
+abbrev pub turn_ended : {T E : Type 0} → View T E → ℕ → List E → Option E → View T E
+turn_ended v number list None = record v { seen = list; idle = v.idle + 1; inside = None }
+turn_ended v number list (Some e) = record v { seen = list ++ e ∷ []; mine = v.mine ++ (number, e) ∷ []; inside = None }
+
+-- A seat that is inside has a value to put back: one that fits, and has this entry more than the published list, if any.
+pub record IsDone {T E S : Type 0} (setting : T → S) (first : T → ℕ) (entries : T → List E) (sound : T → Type 0) (family : E → ℕ) (start : T) (me : Me (Option T) (View T E)) (added : Bool) : Type 0 where
+  pub list : List E
+  pub value : T
+  pub gained : Option E
+  pub joins : Option ℕ
+  pub inside : me.0.inside ≡ Some list
+  pub loaded : me.1 ≡ (0, Some value) ∷ []
+  pub fit : Fits setting first entries sound start (entries value) value
+  pub room : length (entries value) < 2 ^ 64
+  pub may : MayJoin family joins me.0.mine
+  pub adds : Adds family joins (first start + length list) list gained added (entries value)
+
+-- what the seat is then: outside, with the entry, if any
+abbrev pub IsEnded : {T E : Type 0} → (T → ℕ) → (T → List E) → (E → ℕ) → T → Me (Option T) (View T E) → Bool → Me (Option T) (View T E) → Type 0
+IsEnded {T} {E} first entries family start me added me' = (list : List E) (value : T) (gained : Option E) (joins : Option ℕ) → me.0.inside ≡ Some list → me.1 ≡ (0, Some value) ∷ []
+    → Adds family joins (first start + length list) list gained added (entries value) → me' ≡ (turn_ended me.0 (first start + length list) list gained, [])
+
+-- A seat that is inside has the value, which stands for the published list, and a fact holds of it.
+pub record IsReady {T E S : Type 0} (setting : T → S) (first : T → ℕ) (entries : T → List E) (sound : T → Type 0) (start : T) (me : Me (Option T) (View T E)) (asked : T → Type 0) : Type 0 where
+  pub value : T
+  pub inside : me.0.inside ≡ Some (entries value)
+  pub loaded : me.1 ≡ (0, Some value) ∷ []
+  pub fit : Fits setting first entries sound start (entries value) value
+  pub asks : asked value
+
+-- The seat had the value that served the job, and is outside, with the entry that was gained, if any.
+pub record HasServed {T E J A : Type 0} (first : T → ℕ) (entries : T → List E) (family : E → ℕ) (joins : Option ℕ) (gives : T → J → A → Option E → Type 0) (me : Me (Option T) (View T E)) (job : J) (answer : A) (me' : Me (Option T) (View T E)) : Type 0 where
+  pub value : T
+  pub gained : Option E
+  pub loaded : me.1 ≡ (0, Some value) ∷ []
+  pub given : gives value job answer gained
+  pub member : OfFamily family joins (first value + length (entries value)) gained
+  pub result : me' ≡ (turn_ended me.0 (first value + length (entries value)) (entries value) gained, [])

@@ -5,7 +5,9 @@ use mathlib.Core.Option.{some, none}
 use mathlib.Core.Option as option
 use mathlib.Core.List.{IsPrefix}
 use lib.ListN.{get_elem?}
-use Rattle.atomic_table.specs.Table.{State}
+use Rattle.atomic_table.specs.Table.{State, Me}
+use Rattle.atomic_table.specs.Seated.{TableId}
+use Rattle.atomic_table.specs.declared.shared.Seat.{Seat}
 use Rattle.turnstile.specs.declared.view.View.{View}
 use Rattle.turnstile.specs.Log.{entries_of, owned, Families}
 
@@ -56,3 +58,14 @@ pub record Stands {T E : Type 0} (start : T) (base : List E) (number : ℕ) (fit
 -- the first seat's view
 abbrev pub first_view : {T E : Type 0} → T → List E → View T E
 first_view start base = record { start = Some start; seen = base; told = []; mine = []; lost = 0; idle = 0; parts = all_parts; inside = None }
+
+-- a table of two words and one slot, and a seat of it
+abbrev pub IsTable : TableId → TableId → Type 0
+IsTable table of_seat = (table.words ≡ 2) × (table.slots ≡ 1) × (of_seat ≡ table)
+
+-- a seat that is not spent, and outside
+abbrev pub IsOutside : {T E : Type 0} → Me (Option T) (View T E) → Type 0
+IsOutside me = (me.1 ≡ []) × (me.0.inside ≡ None) × (0 < me.0.parts)
+
+abbrev pub IsSameSeat : {T E : Type 0} → Seat (Option T) (View T E) → Seat (Option T) (View T E) → Type 0
+IsSameSeat old new = (new.table_id ≡ old.table_id) × (new.id ≡ old.id)

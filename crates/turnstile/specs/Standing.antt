@@ -32,3 +32,8 @@ pub record Fits {T E S : Type 0} (setting : T → S) (first : T → ℕ) (entrie
 abbrev pub MayJoin : {E : Type 0} → (E → ℕ) → Option ℕ → List (ℕ × E) → Type 0
 MayJoin family None mine = Unit {0}
 MayJoin {E} family (Some f) mine = (opener : E) × Contains mine (f, opener) × (family opener ≡ f)
+
+-- an entry that was gained is of the family that was joined, or opens the one that has its number
+abbrev pub OfFamily : {E : Type 0} → (E → ℕ) → Option ℕ → ℕ → Option E → Type 0
+OfFamily family joins number None = Unit {0}
+OfFamily family joins number (Some e) = family e ≡ family_number joins number

@@ -2,6 +2,7 @@
 #![tactic(auto)]
 
 mod standing;
+mod steps;
 mod view;
 
 pub use standing::{Kept, Standing};

@@ -1,0 +1,46 @@
+-- A turnstile and its passes, as contracts see them, and what one turn does to a pass.
+use Rattle.std.specs.Prelude.{◌≡◌, ℕ, ◌+◌, List, [], ◌∷◌, ◌++◌, length, Option, None, Some}
+use mathlib.Core.List.{IsPrefix}
+use Rattle.atomic_table.specs.Seated.{TableId}
+use Rattle.turnstile.specs.Standing.{Fits, OfFamily}
+use Rattle.turnstile.specs.Plays.{IsShare}
+
+-- which turnstile it is, and the value that it was made with
+pub record TurnstileView (T : Type 0) : Type 0 where
+  pub table : TableId
+  pub start : T
+
+-- A pass of a turnstile that was made with `start`: what was seen, the entries made through it, each under its number,
+-- the claims that found the turn held, the turns that added nothing, and how many of all parts it has.
+pub record PassView (T E : Type 0) : Type 0 where
+  pub table : TableId
+  pub start : Option T
+  pub seen : List E
+  pub mine : List (ℕ × E)
+  pub lost : ℕ
+  pub idle : ℕ
+  pub parts : ℕ
+
+-- the pass is one of this turnstile
+abbrev pub IsOf : {T E : Type 0} → TurnstileView T → PassView T E → Type 0
+IsOf turnstile pass = (pass.table ≡ turnstile.table) × (pass.start ≡ Some turnstile.start)
+
+-- There is a log of who made each entry that was added: `seen` begins with the first value's list and goes on with the log's entries, and `mine` has just those of one maker.
+abbrev pub Stood : {T E : Type 0} → (T → List E) → (T → ℕ) → (E → ℕ) → TurnstileView T → PassView T E → Type 0
+Stood entries first family turnstile pass = IsShare (entries turnstile.start) (first turnstile.start + length (entries turnstile.start)) family pass.seen pass.mine
+
+-- the pass after a turn in which the value, which stood for this list, gained this entry, if any
+abbrev pub after_turn : {T E : Type 0} → PassView T E → ℕ → List E → Option E → PassView T E
+after_turn pass number list None = record pass { seen = list; idle = pass.idle + 1 }
+after_turn pass number list (Some e) = record pass { seen = list ++ e ∷ []; mine = pass.mine ++ (number, e) ∷ [] }
+
+-- The job was served once, by a value of this turnstile that stood for all that was published, and the pass has what came of it.
+pub record Served {T E S J A : Type 0} (setting : T → S) (first : T → ℕ) (entries : T → List E) (sound : T → Type 0) (family : E → ℕ) (joins : Option ℕ) (gives : T → J → A → Option E → Type 0)
+    (turnstile : TurnstileView T) (before : PassView T E) (job : J) (answer : A) (after : PassView T E) : Type 0 where
+  pub value : T
+  pub gained : Option E
+  pub fit : Fits setting first entries sound turnstile.start (entries value) value
+  pub longer : IsPrefix before.seen (entries value)
+  pub given : gives value job answer gained
+  pub member : OfFamily family joins (first value + length (entries value)) gained
+  pub result : after ≡ after_turn before (first value + length (entries value)) (entries value) gained
