@@ -55,7 +55,7 @@ module _ {T E : Type 0} (entries : T → List E) (first : T → ℕ) (fits : T �
         place = refl;
         told = (entries start ++ [], refl);
         origin = λ _. refl;
-        sight = λ _. record { count = 0; within = omega arith; list = sym (append-nil (entries start)); others = λ i x le at. absurd (some-ne-none x (sym at)); };
+        sight = λ _. record { count = 0; within = omega arith; list = sym (append-nil (entries start)); others = λ i x le at. absurd (some-ne-none x (sym at)) };
         spent = λ e. absurd (omega arith);
       }
       knows (suc j) v e = absurd (some-ne-none v (sym e))
@@ -82,15 +82,15 @@ module _ {T E : Type 0} (entries : T → List E) (first : T → ℕ) (fits : T �
         let list : List E = entries start ++ entries_of r.log in
         let in_now : u.0.inside ≡ Some list = k.place ∙ (ap (λ (o : option.Option ℕ). inside_of o i list) e ∙ inside_own i list) in
         absurd (dite (ℕ_discrete i id)
-            (λ same. let here : u.0 ≡ v = some-injective u.0 v (sym u.1 ∙ (ap (get_elem? s.views) same ∙ at)) in let no : None ≡ Some list = sym outside ∙ (sym (ap (λ (x : V). x.inside) here) ∙ in_now) in cc (no))
-            (λ other. let no : None ≡ Some list = sym (k.spent (others_spent i u.0 other u.1)).1 ∙ in_now in cc (no)))
+        (λ same. let here : u.0 ≡ v = some-injective u.0 v (sym u.1 ∙ (ap (get_elem? s.views) same ∙ at)) in let no : None ≡ Some list = sym outside ∙ (sym (ap (λ (x : V). x.inside) here) ∙ in_now) in cc (no))
+        (λ other. let no : None ≡ Some list = sym (k.spent (others_spent i u.0 other u.1)).1 ∙ in_now in cc (no)))
 
     made_all : (i : ℕ) (x : ℕ × E) → get_elem? r.log i ≡ some x → x.0 ≡ id
     made_all i x there = dite (ℕ_discrete x.0 id) (λ e. e)
         (λ other.
-            let u = at_exists s.views x.0 (r.makers i x there) in
-            let k = r.seats x.0 u.0 u.1 in
-            absurd (owned_nothing x.0 (next start) r.log (sym k.made ∙ (k.spent (others_spent x.0 u.0 other u.1)).0) i x there refl))
+        let u = at_exists s.views x.0 (r.makers i x there) in
+        let k = r.seats x.0 u.0 u.1 in
+        absurd (owned_nothing x.0 (next start) r.log (sym k.made ∙ (k.spent (others_spent x.0 u.0 other u.1)).0) i x there refl))
 
     pub last : (x : T) × (es : List E) × (s.homes ≡ some (Some x) ∷ []) × fits start (entries start ++ es) x × (v.mine ≡ numbered (next start) es) × IsPrefix v.seen (entries start ++ es)
     last =

@@ -29,7 +29,7 @@ module _ {T E S : Type 0} (setting : T → S) (first : T → ℕ) (entries : T �
   Here = Me (Option T) (View T E)
 
   fits_list : (list : List E) (x : T) → entries x ≡ list → fits start (entries x) x → fits start list x
-  fits_list list x e f = record { stands = e; same_setting = f.same_setting; same_first = f.same_first; is_sound = f.is_sound; }
+  fits_list list x e f = record { stands = e; same_setting = f.same_setting; same_first = f.same_first; is_sound = f.is_sound }
 
   pub counts : (slots id : ℕ) (me : Here) (added : Bool) → added ≡ true → 0 < me.0.parts → IsDone setting first entries sound family start me added
       → Allows Rule slots id me 1 (λ n. (n + 1) % 2 ^ 64) (Published entries first fits family (step slots 1 1 0 none) me)

@@ -5,3 +5,4 @@ pub mod Turning
 pub mod Passing
 pub mod Closing
 pub mod Ending
+pub mod Passes

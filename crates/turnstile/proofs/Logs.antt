@@ -86,7 +86,7 @@ module _ {E : Type 0} where
   merged_later n e j m [] ys less = refl
   merged_later n e j m (x ∷ xs) ys less = dite (ℕ_discrete x.0 j)
       (λ own. let t : leb m n ≡ false = grind (arith, nat_tests) in rw (owned_hit j m x xs own, merged_later n e j (suc m) xs ys (omega arith))
-          (ap (λ (b : Bool). cond b ((m, x.1) ∷ (n, e) ∷ merged (owned j (suc m) xs) ys) ((n, e) ∷ put_by_number (m, x.1) (merged (owned j (suc m) xs) ys))) t))
+      (ap (λ (b : Bool). cond b ((m, x.1) ∷ (n, e) ∷ merged (owned j (suc m) xs) ys) ((n, e) ∷ put_by_number (m, x.1) (merged (owned j (suc m) xs) ys))) t))
       (λ other. rw (owned_miss j m x xs other) (merged_later n e j (suc m) xs ys (omega arith)))
 
   pub handed_own : (a b : ℕ) (x : ℕ × E) → x.0 ≡ b → handed a b x ≡ (a, x.1)
@@ -103,12 +103,12 @@ module _ {E : Type 0} where
       let F : ℕ × E → Type 0 = λ y. owned a n (y ∷ map (handed a b) xs) ≡ merged (owned a n (x ∷ xs)) (owned b n (x ∷ xs)) in
       dite (ℕ_discrete x.0 a)
       (λ own. let not_b : x.0 ≢ b = λ e. apart (sym own ∙ e) in
-          subst F (sym (handed_other a b x not_b)) (rw (owned_hit a n x (map (handed a b) xs) own, owned_hit a n x xs own, owned_miss b n x xs not_b, ← rest)
-          (sym (put_least n x.1 a (suc n) (map (handed a b) xs) (omega arith)))))
+      subst F (sym (handed_other a b x not_b)) (rw (owned_hit a n x (map (handed a b) xs) own, owned_hit a n x xs own, owned_miss b n x xs not_b, ← rest)
+      (sym (put_least n x.1 a (suc n) (map (handed a b) xs) (omega arith)))))
       (λ other. dite (ℕ_discrete x.0 b)
-          (λ theirs. subst F (sym (handed_own a b x theirs)) (rw (owned_hit a n (a, x.1) (map (handed a b) xs) refl, owned_miss a n x xs other, owned_hit b n x xs theirs)
-              (ap (λ (l : List (ℕ × E)). (n, x.1) ∷ l) rest ∙ sym (merged_later n x.1 a (suc n) xs (owned b (suc n) xs) (omega arith)))))
-          (λ third. subst F (sym (handed_other a b x third)) (rw (owned_miss a n x (map (handed a b) xs) other, owned_miss a n x xs other, owned_miss b n x xs third) rest)))
+      (λ theirs. subst F (sym (handed_own a b x theirs)) (rw (owned_hit a n (a, x.1) (map (handed a b) xs) refl, owned_miss a n x xs other, owned_hit b n x xs theirs)
+      (ap (λ (l : List (ℕ × E)). (n, x.1) ∷ l) rest ∙ sym (merged_later n x.1 a (suc n) xs (owned b (suc n) xs) (omega arith)))))
+      (λ third. subst F (sym (handed_other a b x third)) (rw (owned_miss a n x (map (handed a b) xs) other, owned_miss a n x xs other, owned_miss b n x xs third) rest)))
 
   pub owned_handed-spent : (a b n : ℕ) (log : List (ℕ × E)) → a ≢ b → owned b n (map (handed a b) log) ≡ []
   owned_handed-spent a b n [] apart = refl
@@ -145,7 +145,7 @@ module _ {E : Type 0} where
       dite (ℕ_discrete x.0 j)
       (λ mine. rw (owned_hit j n x xs mine) (ap (λ (l : List E). cond (eqb (family x.1) f) (x.1 ∷ l) l) rest))
       (λ other. rw (owned_miss j n x xs other)
-          (ap (λ (b : Bool). cond b (x.1 ∷ of_family family f (entries_of xs)) (of_family family f (entries_of xs))) (ne_eqb (family x.1) f (λ e. other (own zero x refl e))) ∙ rest))
+      (ap (λ (b : Bool). cond b (x.1 ∷ of_family family f (entries_of xs)) (of_family family f (entries_of xs))) (ne_eqb (family x.1) f (λ e. other (own zero x refl e))) ∙ rest))
 
   pub older_filter : (family : E → ℕ) (f n : ℕ) (base : List E) → All (λ e. family e < n) base → n ≤ f → of_family family f base ≡ []
   older_filter family f n [] all le = refl

@@ -72,7 +72,7 @@ module _ {E : Type 0} where
       let x = at_unmap (handed a b) log i y at in
       let found = families i x.0 x.1 in
       subst (λ (z : ℕ × E). (m : ℕ) × (n + m ≡ family z.1) × (m ≤ i) × ((o : E) × (get_elem? (map (handed a b) log) m ≡ some (z.0, o)) × (family o ≡ family z.1))) x.2
-          (found.0, found.1, found.2, (found.3.0, at_map (handed a b) log found.0 (x.0.0, found.3.0) found.3.1, found.3.2))
+      (found.0, found.1, found.2, (found.3.0, at_map (handed a b) log found.0 (x.0.0, found.3.0) found.3.1, found.3.2))
 
 module _ {T E : Type 0} (entries : T → List E) (first : T → ℕ) (fits : T → List E → T → Type 0) (family : E → ℕ) (start : T) where
   abbrev V : Type 0
@@ -110,22 +110,22 @@ module _ {T E : Type 0} (entries : T → List E) (first : T → ℕ) (fits : T �
       let m : ℕ = length s.views in
       let long : length (vs ++ right ∷ []) ≡ m + 1 = omega (arith, length-append vs (right ∷ []), length-set s.views id left) in
       let left_knows : Knows start base next r.log r.holder id left = record {
-            made = k.made;
-            place = k.place;
-            told = k.told;
-            origin = λ _. k.origin (omega arith);
-            sight = λ _. k.sight (omega arith);
-            spent = λ e. absurd (omega arith);
-          } in
+        made = k.made;
+        place = k.place;
+        told = k.told;
+        origin = λ _. k.origin (omega arith);
+        sight = λ _. k.sight (omega arith);
+        spent = λ e. absurd (omega arith);
+      } in
       let seen = k.sight (omega arith) in
       let right_knows : Knows start base next r.log r.holder m right = record {
-            made = sym (owned_none m next r.log (λ i x there. let b = r.makers i x there in λ e. absurd (omega arith)));
-            place = outside ∙ sym (newcomer r.holder m (whole r.log) r.held);
-            told = k.told;
-            origin = λ _. k.origin (omega arith);
-            sight = λ _. record { count = seen.count; within = seen.within; list = seen.list; others = λ i x le there. let b = r.makers i x there in λ e. absurd (omega arith); };
-            spent = λ e. absurd (omega arith);
-          } in
+        made = sym (owned_none m next r.log (λ i x there. let b = r.makers i x there in λ e. absurd (omega arith)));
+        place = outside ∙ sym (newcomer r.holder m (whole r.log) r.held);
+        told = k.told;
+        origin = λ _. k.origin (omega arith);
+        sight = λ _. record { count = seen.count; within = seen.within; list = seen.list; others = λ i x le there. let b = r.makers i x there in λ e. absurd (omega arith) };
+        spent = λ e. absurd (omega arith);
+      } in
       let all_left = seats_set (λ j d. Knows start base next r.log r.holder j d) s.views id left left_knows (λ j d _ there. r.seats j d there) in
       let sum = sum_set parts_of s.views id v left at in
       let sum_right = sum_by_push parts_of vs right in
@@ -169,21 +169,21 @@ module _ {T E : Type 0} (entries : T → List E) (first : T → ℕ) (fits : T �
       let sv = k.sight live in
       let sw = l.sight live' in
       let both_knows : Knows start base next log' r.holder id both = record {
-            made = (λ i. merged (k.made i) (l.made i)) ∙ sym (owned_handed-own id other next log not_other);
-            place = k.place ∙ ap (inside_of r.holder id) (sym same);
-            told = subst (IsPrefix both.told) (sym same) (shorter_prefix v.seen w.seen (whole log) (sees_prefix base log id v.seen sv) (sees_prefix base log other w.seen sw));
-            origin = λ _. k.origin live;
-            sight = λ _. sees_both base log id other v.seen w.seen sv sw;
-            spent = λ e. absurd (omega arith);
-          } in
+        made = (λ i. merged (k.made i) (l.made i)) ∙ sym (owned_handed-own id other next log not_other);
+        place = k.place ∙ ap (inside_of r.holder id) (sym same);
+        told = subst (IsPrefix both.told) (sym same) (shorter_prefix v.seen w.seen (whole log) (sees_prefix base log id v.seen sv) (sees_prefix base log other w.seen sw));
+        origin = λ _. k.origin live;
+        sight = λ _. sees_both base log id other v.seen w.seen sv sw;
+        spent = λ e. absurd (omega arith);
+      } in
       let spent_knows : Knows start base next log' r.holder other spent_view = record {
-            made = sym (owned_handed-spent id other next log not_other);
-            place = sym outside ∙ (l.place ∙ ap (inside_of r.holder other) (sym same));
-            told = (whole log', refl);
-            origin = λ h. absurd (omega arith);
-            sight = λ h. absurd (omega arith);
-            spent = λ _. (refl, refl);
-          } in
+        made = sym (owned_handed-spent id other next log not_other);
+        place = sym outside ∙ (l.place ∙ ap (inside_of r.holder other) (sym same));
+        told = (whole log', refl);
+        origin = λ h. absurd (omega arith);
+        sight = λ h. absurd (omega arith);
+        spent = λ _. (refl, refl);
+      } in
       let vs = set s.views id both in
       let long : length (set vs other spent_view) ≡ length s.views = length-set vs other spent_view ∙ length-set s.views id both in
       let sum = sum_set parts_of s.views id v both at in
@@ -197,8 +197,8 @@ module _ {T E : Type 0} (entries : T → List E) (first : T → ℕ) (fits : T �
         held = λ j e. let h = r.held j e in omega arith;
         makers = λ i y e. let x = at_unmap (handed id other) log i y e in let h = r.makers i x.0 x.1 in let b = at_bound s.views id v at in
             subst (λ (n : ℕ). y.0 < n) (sym long) (dite (ℕ_discrete x.0.0 other)
-                (λ own. subst (λ (n : ℕ). n < length s.views) (ap (λ (z : ℕ × E). z.0) (sym (handed_own id other x.0 own) ∙ x.2)) b)
-                (λ third. subst (λ (n : ℕ). n < length s.views) (ap (λ (z : ℕ × E). z.0) (sym (handed_other id other x.0 third) ∙ x.2)) h));
+            (λ own. subst (λ (n : ℕ). n < length s.views) (ap (λ (z : ℕ × E). z.0) (sym (handed_own id other x.0 own) ∙ x.2)) b)
+            (λ third. subst (λ (n : ℕ). n < length s.views) (ap (λ (z : ℕ × E). z.0) (sym (handed_other id other x.0 third) ∙ x.2)) h));
         older = r.older;
         families = families_handed family next id other log r.families;
         seats = seats_set (λ j d. Knows start base next log' r.holder j d) vs other spent_view spent_knows
@@ -214,17 +214,20 @@ module _ {T E : Type 0} (entries : T → List E) (first : T → ℕ) (fits : T �
       let w : V = record v { seen = whole log } in
       spelled entries first fits family start s r
       (λ (ws : List ℕ). (w : V) × (a : Act (Option T)) × Rattle.atomic_table.specs.Table.Valid s.homes [] a × Rule (stepped record { words = ws; homes = s.homes; views = s.views } 1 (get_or ws 1 0) id [] w a)
-      × Learned entries first fits family (step slots 1 0 0 none) (v, []) (get_or ws 1 0) (w, Rattle.atomic_table.specs.Table.carried_after [] a))
-      (w, keeps, tt,
-      quiet entries first fits family start s r id v w at refl record { made = k.made; place = k.place; told = k.told; origin = k.origin; sight = λ _. sees_all base log id; spent = λ e. absurd (omega arith); },
-      (
-        whole log,
-        refl,
-        sees_prefix base log id v.seen (k.sight live),
-        (λ other from. let same : start ≡ other = same_some (sym (k.origin live) ∙ from) in subst (λ (t : T). length (whole log) ≡ length (entries t) + length log) same (length-append base (entries_of log) ∙ ap (λ (n : ℕ). length base + n) (length-map log (λ (x : ℕ × E). x.1)))),
-        (λ other from. let same : start ≡ other = same_some (sym (k.origin live) ∙ from) in
-            subst (λ (t : T). IsShare (entries t) (first t + length (entries t)) family (whole log) v.mine) same (share family base next log id (whole log) v.mine r.older r.families (sees_all base log id) k.made)),
-      ))
+      × Learned entries first fits family (step slots 1 0 0 none) (v, []) (get_or ws 1 0) (w, Rattle.atomic_table.specs.Table.carried_after [] a)) (
+        w,
+        keeps,
+        tt,
+        quiet entries first fits family start s r id v w at refl record { made = k.made; place = k.place; told = k.told; origin = k.origin; sight = λ _. sees_all base log id; spent = λ e. absurd (omega arith) },
+        (
+          whole log,
+          refl,
+          sees_prefix base log id v.seen (k.sight live),
+          (λ other from. let same : start ≡ other = same_some (sym (k.origin live) ∙ from) in subst (λ (t : T). length (whole log) ≡ length (entries t) + length log) same (length-append base (entries_of log) ∙ ap (λ (n : ℕ). length base + n) (length-map log (λ (x : ℕ × E). x.1)))),
+          (λ other from. let same : start ≡ other = same_some (sym (k.origin live) ∙ from) in
+              subst (λ (t : T). IsShare (entries t) (first t + length (entries t)) family (whole log) v.mine) same (share family base next log id (whole log) v.mine r.older r.families (sees_all base log id) k.made)),
+        ),
+      )
 
   pub settles : (slots id : ℕ) (v : V) → 0 < v.parts → Allows Rule slots id (v, []) 0 (λ n. n) (Settled entries first fits family (step slots 0 0 0 none) (v, []))
   settles slots id v live s r fit at small =
@@ -233,7 +236,10 @@ module _ {T E : Type 0} (entries : T → List E) (first : T → ℕ) (fits : T �
       let w : V = record v { told = [] } in
       spelled entries first fits family start s r
       (λ (ws : List ℕ). (w : V) × (a : Act (Option T)) × Rattle.atomic_table.specs.Table.Valid s.homes [] a × Rule (stepped record { words = ws; homes = s.homes; views = s.views } 0 (get_or ws 0 0) id [] w a)
-      × Settled entries first fits family (step slots 0 0 0 none) (v, []) (get_or ws 0 0) (w, Rattle.atomic_table.specs.Table.carried_after [] a))
-      (w, keeps, tt,
-      quiet entries first fits family start s r id v w at refl record { made = k.made; place = k.place; told = (whole log, refl); origin = k.origin; sight = k.sight; spent = λ e. absurd (omega arith); },
-      (refl, prefix_of_two v.told v.seen (whole log) k.told (sees_prefix base log id v.seen (k.sight live)), share_of entries first fits family start s r id v at live))
+      × Settled entries first fits family (step slots 0 0 0 none) (v, []) (get_or ws 0 0) (w, Rattle.atomic_table.specs.Table.carried_after [] a)) (
+        w,
+        keeps,
+        tt,
+        quiet entries first fits family start s r id v w at refl record { made = k.made; place = k.place; told = (whole log, refl); origin = k.origin; sight = k.sight; spent = λ e. absurd (omega arith) },
+        (refl, prefix_of_two v.told v.seen (whole log) k.told (sees_prefix base log id v.seen (k.sight live)), share_of entries first fits family start s r id v at live),
+      )

@@ -78,7 +78,7 @@ module _ {T E : Type 0} (entries : T → List E) (first : T → ℕ) (fits : T �
       let log = r.log in
       let w : V = record v { inside = Some (whole log) } in
       let P : List (option.Option (Option T)) → Type 0 = λ hs. (w : V) × (a : Act (Option T)) × Rattle.atomic_table.specs.Table.Valid hs [] a × Rule (stepped record { words = 0 ∷ length r.log ∷ []; homes = hs; views = s.views } 0 1 id [] w a)
-            × Won entries first fits family (v, []) (w, Rattle.atomic_table.specs.Table.carried_after [] a) in
+      × Won entries first fits family (v, []) (w, Rattle.atomic_table.specs.Table.carried_after [] a) in
       subst P (sym here.1) (
         w,
         takes 0 (Some here.0),
@@ -117,11 +117,14 @@ module _ {T E : Type 0} (entries : T → List E) (first : T → ℕ) (fits : T �
       (won.0, won.1, won.2, won.3, ((λ _. won.4), (λ held. absurd (held refl))))
   claims_at s r slots id v at outside live (some i) taken =
       let k = r.seats id v at in
-      let w : V = record v { lost = v.lost + 1 } in
-      (w, keeps, tt,
-      subst (λ (o : option.Option ℕ). Rule record { words = turn_of o ∷ length r.log ∷ []; homes = s.homes; views = set s.views id w }) taken
-          (quiet s r id v w at refl record { made = k.made; place = k.place; told = k.told; origin = k.origin; sight = k.sight; spent = k.spent; }),
-      ((λ z. absurd (omega arith)), (λ _. (refl, share_of s r id v at live))))
+      let w : V = record v { lost = v.lost + 1 } in (
+        w,
+        keeps,
+        tt,
+        subst (λ (o : option.Option ℕ). Rule record { words = turn_of o ∷ length r.log ∷ []; homes = s.homes; views = set s.views id w }) taken
+            (quiet s r id v w at refl record { made = k.made; place = k.place; told = k.told; origin = k.origin; sight = k.sight; spent = k.spent }),
+        ((λ z. absurd (omega arith)), (λ _. (refl, share_of s r id v at live))),
+      )
 
   pub claims : (slots id : ℕ) (v : V) → v.inside ≡ None → 0 < v.parts → Allows Rule slots id (v, []) 0 (λ n. either (eqb n 0) 1 n) (Claimed entries first fits family (step slots 0 0 1 none) (v, []))
   claims slots id v outside live s r fit at small = spelled s r
@@ -135,7 +138,7 @@ module _ {T E : Type 0} (entries : T → List E) (first : T → ℕ) (fits : T �
   families_push id log mine e joins families made may named i x at = ⊎_elim
       (λ (t : get_elem? log i ≡ some x). let found = families i x t in (found.0, found.1, found.2, (found.3.0, at_longer log ((id, e) ∷ []) found.0 (x.0, found.3.0) found.3.1, found.3.2)))
       (λ (t : (i ≡ length log) × ((id, e) ≡ x)). let place = t.0 in
-          subst (λ (y : ℕ × E). (m : ℕ) × (next + m ≡ family y.1) × (m ≤ i) × ((o : E) × (get_elem? (log ++ (id, e) ∷ []) m ≡ some (y.0, o)) × (family o ≡ family y.1))) t.1 (new joins may named place))
+      subst (λ (y : ℕ × E). (m : ℕ) × (next + m ≡ family y.1) × (m ≤ i) × ((o : E) × (get_elem? (log ++ (id, e) ∷ []) m ≡ some (y.0, o)) × (family o ≡ family y.1))) t.1 (new joins may named place))
       (at_snoc_place log (id, e) x i at)
     where
       new : (joins : Option ℕ) → MayJoin family joins mine → family e ≡ family_number joins (next + length log) → i ≡ length log
@@ -204,26 +207,31 @@ module _ {T E : Type 0} (entries : T → List E) (first : T → ℕ) (fits : T �
       let same_long : length (whole r.log) ≡ length list = ap length has.1 in
       let count : (length r.log + 1) % 2 ^ 64 ≡ length log' = let small : length r.log + 1 < 2 ^ 64 = omega arith in mod-eq_of_lt small ∙ sym (length-append r.log ((id, e) ∷ [])) in
       let kept : Rule record { words = turn_of r.holder ∷ ((length r.log + 1) % 2 ^ 64) ∷ []; homes = s.homes; views = set s.views id w } =
-          subst (λ (ws : List ℕ). Rule record { words = ws; homes = s.homes; views = set s.views id w }) (let back = sym has.0 in let back_count = sym count in λ i. turn_of (back i) ∷ back_count i ∷ [])
-          (subst (λ (l : List E). Rule record { words = turn_of (some id) ∷ length log' ∷ []; homes = s.homes; views = set s.views id (published v l e) }) has.1
-              (grown s r id v e joins at live has.0 may (named ∙ ap (λ (l : List E). family_number joins (first start + length l)) (sym has.1)))) in
+      subst (λ (ws : List ℕ). Rule record { words = ws; homes = s.homes; views = set s.views id w }) (let back = sym has.0 in let back_count = sym count in λ i. turn_of (back i) ∷ back_count i ∷ [])
+      (subst (λ (l : List E). Rule record { words = turn_of (some id) ∷ length log' ∷ []; homes = s.homes; views = set s.views id (published v l e) }) has.1
+      (grown s r id v e joins at live has.0 may (named ∙ ap (λ (l : List E). family_number joins (first start + length l)) (sym has.1)))) in
       spelled s r
       (λ (ws : List ℕ). (w : V) × (a : Act (Option T)) × Rattle.atomic_table.specs.Table.Valid s.homes c a × Rule (stepped record { words = ws; homes = s.homes; views = s.views } 1 ((get_or ws 1 0 + 1) % 2 ^ 64) id c w a)
-      × Published entries first fits family (step slots 1 1 0 none) (v, c) (get_or ws 1 0) (w, Rattle.atomic_table.specs.Table.carried_after c a))
-      (w, keeps, tt, kept, λ other y list' e' from inside' loaded stands'.
-          let ps : start ≡ other = same_some (sym (k.origin live) ∙ from) in
-          let pl : list ≡ list' = same_some (sym inside ∙ inside') in
-          let px : x ≡ y = same_load x y loaded in
-          let pe = (snoc_list list list' e e' (sym stands ∙ (ap entries px ∙ stands'))).1 in
-          λ i. (record v { seen = pl i ++ pe i ∷ []; mine = v.mine ++ (first (ps i) + length (pl i), pe i) ∷ []; inside = Some (pl i ++ pe i ∷ []) }, c))
+      × Published entries first fits family (step slots 1 1 0 none) (v, c) (get_or ws 1 0) (w, Rattle.atomic_table.specs.Table.carried_after c a)) (
+        w,
+        keeps,
+        tt,
+        kept,
+        λ other y list' e' from inside' loaded stands'.
+            let ps : start ≡ other = same_some (sym (k.origin live) ∙ from) in
+            let pl : list ≡ list' = same_some (sym inside ∙ inside') in
+            let px : x ≡ y = same_load x y loaded in
+            let pe = (snoc_list list list' e e' (sym stands ∙ (ap entries px ∙ stands'))).1 in
+            λ i. (record v { seen = pl i ++ pe i ∷ []; mine = v.mine ++ (first (ps i) + length (pl i), pe i) ∷ []; inside = Some (pl i ++ pe i ∷ []) }, c),
+      )
 
   -- the turn is given back, with the value
   leave_at : (s : St) (r : Rule s) (id : ℕ) (v w : V) (list : List E) (x : T) → get_elem? s.views id ≡ some v → length s.homes ≡ 1 → r.holder ≡ some id → whole r.log ≡ list → fits start list x → w.parts ≡ v.parts
       → Knows start base next r.log none id w → Rule (stepped record { words = turn_of r.holder ∷ length r.log ∷ []; homes = s.homes; views = s.views } 0 0 id ((0, Some x) ∷ []) w gives)
   leave_at s r id v w list x at one has same right parts mine =
       turned s r none (set s.homes 0 (some (Some x))) id v w at parts (λ _. (x, one_only s.homes (some (Some x)) one, subst (λ (l : List E). fits start l x) (sym same) right)) (λ j e. absurd (some-ne-none j (sym e)))
-          (λ j d other there. knows_turned start base next r.log r.holder none j d (ap (λ (o : option.Option ℕ). inside_of o j (whole r.log)) has ∙ inside_other id j (whole r.log) other) refl (r.seats j d there))
-          mine
+      (λ j d other there. knows_turned start base next r.log r.holder none j d (ap (λ (o : option.Option ℕ). inside_of o j (whole r.log)) has ∙ inside_other id j (whole r.log) other) refl (r.seats j d there))
+      mine
 
   pub leaves : (slots id : ℕ) (v : V) (list : List E) (x : T) → slots ≡ 1 → 0 < v.parts → v.inside ≡ Some list → fits start list x
       → Allows Rule slots id (v, (0, Some x) ∷ []) 0 (λ _. 0) (Left entries first fits family (step slots 0 0 0 none) (v, (0, Some x) ∷ []))
@@ -234,10 +242,13 @@ module _ {T E : Type 0} (entries : T → List E) (first : T → ℕ) (fits : T �
       let w : V = record v { inside = None } in
       spelled s r
       (λ (ws : List ℕ). (w : V) × (a : Act (Option T)) × Rattle.atomic_table.specs.Table.Valid s.homes c a × Rule (stepped record { words = ws; homes = s.homes; views = s.views } 0 0 id c w a)
-      × Left entries first fits family (step slots 0 0 0 none) (v, c) (get_or ws 0 0) (w, Rattle.atomic_table.specs.Table.carried_after c a))
-      (w, gives, tt,
-      leave_at s r id v w list x at (fit ∙ one) has.0 has.1 right refl record { made = k.made; place = refl; told = k.told; origin = k.origin; sight = k.sight; spent = λ e. absurd (omega arith); },
-      (refl, share_of s r id v at live))
+      × Left entries first fits family (step slots 0 0 0 none) (v, c) (get_or ws 0 0) (w, Rattle.atomic_table.specs.Table.carried_after c a)) (
+        w,
+        gives,
+        tt,
+        leave_at s r id v w list x at (fit ∙ one) has.0 has.1 right refl record { made = k.made; place = refl; told = k.told; origin = k.origin; sight = k.sight; spent = λ e. absurd (omega arith) },
+        (refl, share_of s r id v at live),
+      )
 
   pub leaves_idle : (slots id : ℕ) (v : V) (list : List E) (x : T) → slots ≡ 1 → 0 < v.parts → v.inside ≡ Some list → fits start list x
       → Allows Rule slots id (v, (0, Some x) ∷ []) 0 (λ _. 0) (LeftIdle entries first fits family (step slots 0 0 0 none) (v, (0, Some x) ∷ []))
@@ -249,15 +260,18 @@ module _ {T E : Type 0} (entries : T → List E) (first : T → ℕ) (fits : T �
       let sees : Sees base r.log id list = subst (Sees base r.log id) has.1 (sees_all base r.log id) in
       spelled s r
       (λ (ws : List ℕ). (w : V) × (a : Act (Option T)) × Rattle.atomic_table.specs.Table.Valid s.homes c a × Rule (stepped record { words = ws; homes = s.homes; views = s.views } 0 0 id c w a)
-      × LeftIdle entries first fits family (step slots 0 0 0 none) (v, c) (get_or ws 0 0) (w, Rattle.atomic_table.specs.Table.carried_after c a))
-      (w, gives, tt,
-      leave_at s r id v w list x at (fit ∙ one) has.0 has.1 right refl record { made = k.made; place = refl; told = k.told; origin = k.origin; sight = λ _. sees; spent = λ e. absurd (omega arith); },
-      λ list' inside'.
-          let pl : list ≡ list' = same_some (sym inside ∙ inside') in (
-            (λ i. (record v { seen = pl i; idle = v.idle + 1; inside = None }, [])),
-            λ other from. let same : start ≡ other = same_some (sym (k.origin live) ∙ from) in
-                subst (λ (t : T). IsShare (entries t) (first t + length (entries t)) family list v.mine) same (share family base next r.log id list v.mine r.older r.families sees k.made),
-          ))
+      × LeftIdle entries first fits family (step slots 0 0 0 none) (v, c) (get_or ws 0 0) (w, Rattle.atomic_table.specs.Table.carried_after c a)) (
+        w,
+        gives,
+        tt,
+        leave_at s r id v w list x at (fit ∙ one) has.0 has.1 right refl record { made = k.made; place = refl; told = k.told; origin = k.origin; sight = λ _. sees; spent = λ e. absurd (omega arith) },
+        λ list' inside'.
+            let pl : list ≡ list' = same_some (sym inside ∙ inside') in (
+              (λ i. (record v { seen = pl i; idle = v.idle + 1; inside = None }, [])),
+              λ other from. let same : start ≡ other = same_some (sym (k.origin live) ∙ from) in
+                  subst (λ (t : T). IsShare (entries t) (first t + length (entries t)) family list v.mine) same (share family base next r.log id list v.mine r.older r.families sees k.made),
+            ),
+      )
 
   -- the same steps, of a seat whose slots are known
   abbrev pub Here : Type 0
@@ -272,7 +286,7 @@ module _ {T E : Type 0} (entries : T → List E) (first : T → ℕ) (fits : T �
       → Allows Rule slots id me 1 (λ n. (n + 1) % 2 ^ 64) (Published entries first fits family (step slots 1 1 0 none) me)
   publishes_as slots id me list e x joins loaded live inside stands room may named =
       subst (λ (c : List (ℕ × Option T)). Allows Rule slots id (me.0, c) 1 (λ n. (n + 1) % 2 ^ 64) (Published entries first fits family (step slots 1 1 0 none) (me.0, c))) (sym loaded)
-          (publishes slots id me.0 list e x joins live inside stands room may named)
+      (publishes slots id me.0 list e x joins live inside stands room may named)
 
   pub leaves_as : (slots id : ℕ) (me : Here) (list : List E) (x : T) → me.1 ≡ (0, Some x) ∷ [] → slots ≡ 1 → 0 < me.0.parts → me.0.inside ≡ Some list → fits start list x
       → Allows Rule slots id me 0 (λ _. 0) (Left entries first fits family (step slots 0 0 0 none) me)

@@ -2,6 +2,7 @@
 use Rattle.std.specs.Prelude.{◌≡◌, ℕ, ◌+◌, List, [], ◌∷◌, ◌++◌, length, Option, None, Some}
 use mathlib.Core.List.{IsPrefix}
 use Rattle.atomic_table.specs.Seated.{TableId}
+use Rattle.turnstile.specs.declared.view.View.{View}
 use Rattle.turnstile.specs.Standing.{Fits, OfFamily}
 use Rattle.turnstile.specs.Plays.{IsShare}
 
@@ -20,6 +21,10 @@ pub record PassView (T E : Type 0) : Type 0 where
   pub lost : ℕ
   pub idle : ℕ
   pub parts : ℕ
+
+-- the pass of a seat
+abbrev pub pass_view : {T E : Type 0} → TableId → View T E → PassView T E
+pass_view table v = record { table = table; start = v.start; seen = v.seen; mine = v.mine; lost = v.lost; idle = v.idle; parts = v.parts }
 
 -- the pass is one of this turnstile
 abbrev pub IsOf : {T E : Type 0} → TurnstileView T → PassView T E → Type 0

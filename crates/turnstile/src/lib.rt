@@ -3,6 +3,8 @@
 
 mod standing;
 mod steps;
+mod turnstile;
 mod view;
 
 pub use standing::{Kept, Standing};
+pub use turnstile::{Busy, Pass, Turnstile};

@@ -9,9 +9,11 @@ use crate::view::{Cells, Claim, Leave, LeaveIdle, Place, Publish};
 
 // The words: the turn, and how many entries were added.
 pub const TURN: usize = 0;
+
 pub const COUNT: usize = 1;
 
 const FREE: u64 = 0;
+
 const HELD: u64 = 1;
 
 // The slot of the value.

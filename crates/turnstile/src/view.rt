@@ -1,6 +1,6 @@
 // What a seat at the turnstile's table knows, the table's rule, and what each step tells.
 use crate::standing::Standing;
-use atomic_table::{Join, Play, Shared, Seat, Split, TableRule};
+use atomic_table::{Join, Play, Seat, Shared, Split, TableRule};
 use std::collections::LinkedList;
 use std::marker::{Brand, PhantomData};
 use std::snapshot::Snapshot;
