@@ -13,6 +13,8 @@ use Rattle.turnstile.specs.declared.view.View.{View}
 use Rattle.turnstile.specs.Log.{entries_of, owned, numbered, Families}
 use Rattle.turnstile.specs.Rule.{turn_of, inside_of, all_parts, first_view, Sees, Knows, Stands}
 use Rattle.turnstile.specs.Plays.{spent_view}
+use Rattle.turnstile.specs.Pass.{TurnstileView, PassView, pass_view}
+use Rattle.atomic_table.specs.Seated.{TableId}
 use Rattle.turnstile.proofs.Logs.{owned_all, owned_nothing}
 use Rattle.turnstile.proofs.Lists.{at_bound, sum_set}
 use Rattle.turnstile.proofs.Seats.{inside_own, sees_prefix}
@@ -104,3 +106,31 @@ module _ {T E : Type 0} (entries : T → List E) (first : T → ℕ) (fits : T �
   closes start id v words slots all outside final =
       let l = last start final.0 final.1.0 id v final.1.1 all outside in
       (l.0, l.1, final.4 0 (Some l.0) (ap (λ (hs : List (option.Option (Option T))). get_elem? hs 0) l.2), l.3, l.4, l.5)
+
+  pub opens_as : (start value : T) (slots : List (Option T)) → start ≡ value → slots ≡ Some value ∷ [] → fits value (entries value) value → All (λ e. family e < next value) (entries value)
+      → Rule start (opening (0 ∷ 0 ∷ []) slots (first_view start (entries start)))
+  opens_as start value slots same one fit older =
+      let back = sym same in
+      let full = sym one in
+      let P : T × List (Option T) → Type 0 = λ p. Rule p.0 (opening (0 ∷ 0 ∷ []) p.1 (first_view p.0 (entries p.0))) in
+      subst P (λ i. (back i, full i)) (opens value fit older)
+
+  entries_of-numbered : (n : ℕ) (es : List E) → entries_of (numbered n es) ≡ es
+  entries_of-numbered n [] = refl
+  entries_of-numbered n (e ∷ es) = ap (λ (l : List E). e ∷ l) (entries_of-numbered (suc n) es)
+
+  -- the value that was taken out stands for the first list and all that the pass made
+  pub closed : (key : T) (id : ℕ) (v : V) (table : TableId) (words : List ℕ) (slots : List (Option T)) (slot : Option T) (pass : PassView T E) (turnstile : TurnstileView T) → pass_view table v ≡ pass → key ≡ turnstile.start → pass.parts ≡ all_parts → v.inside ≡ None
+      → Final (Seen (Rule key) id v) words slots → get_elem? slots 0 ≡ some slot
+      → (x : T) × (slot ≡ Some x) × fits turnstile.start (entries turnstile.start ++ entries_of pass.mine) x × (pass.mine ≡ numbered (next turnstile.start) (entries_of pass.mine)) × IsPrefix pass.seen (entries turnstile.start ++ entries_of pass.mine)
+  closed key id v table words slots slot pass turnstile is same all outside final at =
+      let l = closes key id v words slots (ap (λ (p : PassView T E). p.parts) is ∙ all) outside final in
+      let es : entries_of v.mine ≡ l.1 = ap entries_of l.4 ∙ entries_of-numbered (next key) l.1 in
+      let P : T × PassView T E → Type 0 = λ z. (x : T) × (slot ≡ Some x) × fits z.0 (entries z.0 ++ entries_of z.1.mine) x × (z.1.mine ≡ numbered (next z.0) (entries_of z.1.mine)) × IsPrefix z.1.seen (entries z.0 ++ entries_of z.1.mine) in
+      subst P (λ i. (same i, is i)) (
+        l.0,
+        some-injective slot (Some l.0) (sym at ∙ l.2),
+        subst (λ (m : List E). fits key (entries key ++ m) l.0) (sym es) l.3,
+        l.4 ∙ ap (numbered (next key)) (sym es),
+        subst (λ (m : List E). IsPrefix v.seen (entries key ++ m)) (sym es) l.5,
+      )

@@ -85,3 +85,9 @@ module _ {T E S : Type 0} (setting : T → S) (first : T → ℕ) (entries : T �
             ∙ (view_after later me.0 (Some list) n (entries h.value) h.gained
             ∙ (ap (λ (z : TableId). after_turn (pass_view z me.0) n (entries h.value) h.gained) same ∙ ap (λ (p : PassView T E). after_turn p n (entries h.value) h.gained) is)));
       }
+
+-- a loss after some losses
+pub lost_more : {T E : Type 0} (p q r : PassView T E) (n : ℕ) → q ≡ record p { lost = p.lost + n } → r ≡ record q { lost = q.lost + 1 } → r ≡ record p { lost = p.lost + (n + 1) }
+lost_more {T} {E} p q r n before now =
+    let more : (p.lost + n) + 1 ≡ p.lost + (n + 1) = omega arith in
+    now ∙ (ap (λ (z : PassView T E). record z { lost = z.lost + 1 }) before ∙ ap (λ (k : ℕ). record p { lost = k }) more)

@@ -4,7 +4,9 @@ use mathlib.Core.List.{IsPrefix}
 use Rattle.atomic_table.specs.Seated.{TableId}
 use Rattle.turnstile.specs.declared.view.View.{View}
 use Rattle.turnstile.specs.Standing.{Fits, OfFamily}
-use Rattle.turnstile.specs.Plays.{IsShare}
+use Rattle.turnstile.specs.Log.{merged}
+use Rattle.turnstile.specs.Rule.{all_parts}
+use Rattle.turnstile.specs.Plays.{IsShare, longer}
 
 -- which turnstile it is, and the value that it was made with
 pub record TurnstileView (T : Type 0) : Type 0 where
@@ -49,3 +51,23 @@ pub record Served {T E S J A : Type 0} (setting : T → S) (first : T → ℕ) (
   pub given : gives value job answer gained
   pub member : OfFamily family joins (first value + length (entries value)) gained
   pub result : after ≡ after_turn before (first value + length (entries value)) (entries value) gained
+
+-- the pass that a turnstile is made with: it saw the first list, and has all parts
+abbrev pub first_pass : {T E : Type 0} → TurnstileView T → List E → PassView T E
+first_pass turnstile list = record { table = turnstile.table; start = Some turnstile.start; seen = list; mine = []; lost = 0; idle = 0; parts = all_parts }
+
+-- a pass that has so many parts, has seen the same, and made nothing
+abbrev pub new_pass : {T E : Type 0} → PassView T E → ℕ → PassView T E
+new_pass pass parts = record pass { mine = []; lost = 0; idle = 0; parts = parts }
+
+-- two passes in one: the longer list, the entries of both by number, and the sums
+abbrev pub both_passes : {T E : Type 0} → PassView T E → PassView T E → PassView T E
+both_passes one other = record one { seen = longer one.seen other.seen; mine = merged one.mine other.mine; lost = one.lost + other.lost; idle = one.idle + other.idle; parts = one.parts + other.parts }
+
+-- The pass has seen the list that stands now, as many entries behind the first list as one load of the count read.
+pub record HasLearned {T E : Type 0} (base : List E) (before after : PassView T E) : Type 0 where
+  pub list : List E
+  pub count : ℕ
+  pub result : after ≡ record before { seen = list }
+  pub more : IsPrefix before.seen list
+  pub counted : length list ≡ length base + count

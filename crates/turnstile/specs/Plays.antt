@@ -78,6 +78,10 @@ module _ {T E : Type 0} where
   abbrev pub joined : View T E → View T E → View T E
   joined v w = record v { seen = longer v.seen w.seen; told = shorter v.seen w.seen; mine = merged v.mine w.mine; lost = v.lost + w.lost; idle = v.idle + w.idle; parts = v.parts + w.parts }
 
+  -- the joined view, once it is settled which list is longer
+  abbrev pub rejoined : View T E → View T E → View T E
+  rejoined v w = record (joined v w) { told = [] }
+
   abbrev pub spent_view : View T E
   spent_view = record { start = None; seen = []; told = []; mine = []; lost = 0; idle = 0; parts = 0; inside = None }
 

@@ -1,6 +1,7 @@
 //! Counted turns on one shared value.
 #![tactic(auto)]
 
+mod passing;
 mod standing;
 mod steps;
 mod turnstile;

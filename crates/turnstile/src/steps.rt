@@ -12,12 +12,12 @@ pub const TURN: usize = 0;
 
 pub const COUNT: usize = 1;
 
-const FREE: u64 = 0;
+pub const FREE: u64 = 0;
 
 const HELD: u64 = 1;
 
 // The slot of the value.
-const VALUE: usize = 0;
+pub const VALUE: usize = 0;
 
 /// Whether the seat has the turn now: where not, its one exchange found it held.
 pub fn claim<T: Standing>(cells: &Cells<T>, seat: &mut Place<T>) -> bool

@@ -243,3 +243,13 @@ module _ {T E : Type 0} (entries : T → List E) (first : T → ℕ) (fits : T �
         quiet entries first fits family start s r id v w at refl record { made = k.made; place = k.place; told = (whole log, refl); origin = k.origin; sight = k.sight; spent = λ e. absurd (omega arith) },
         (refl, prefix_of_two v.told v.seen (whole log) k.told (sees_prefix base log id v.seen (k.sight live)), share_of entries first fits family start s r id v at live),
       )
+
+  -- the same loads, of a seat that holds nothing
+  abbrev pub Here : Type 0
+  Here = Me (Option T) V
+
+  pub learns_as : (slots id : ℕ) (me : Here) → me.1 ≡ [] → 0 < me.0.parts → Allows Rule slots id me 1 (λ n. n) (Learned entries first fits family (step slots 1 0 0 none) me)
+  learns_as slots id me empty live = subst (λ (c : List (ℕ × Option T)). Allows Rule slots id (me.0, c) 1 (λ n. n) (Learned entries first fits family (step slots 1 0 0 none) (me.0, c))) (sym empty) (learns slots id me.0 live)
+
+  pub settles_as : (slots id : ℕ) (me : Here) → me.1 ≡ [] → 0 < me.0.parts → Allows Rule slots id me 0 (λ n. n) (Settled entries first fits family (step slots 0 0 0 none) me)
+  settles_as slots id me empty live = subst (λ (c : List (ℕ × Option T)). Allows Rule slots id (me.0, c) 0 (λ n. n) (Settled entries first fits family (step slots 0 0 0 none) (me.0, c))) (sym empty) (settles slots id me.0 live)
