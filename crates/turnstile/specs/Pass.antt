@@ -36,10 +36,27 @@ IsOf turnstile pass = (pass.table ≡ turnstile.table) × (pass.start ≡ Some t
 abbrev pub Stood : {T E : Type 0} → (T → List E) → (T → ℕ) → (E → ℕ) → TurnstileView T → PassView T E → Type 0
 Stood entries first family turnstile pass = IsShare (entries turnstile.start) (first turnstile.start + length (entries turnstile.start)) family pass.seen pass.mine
 
--- the pass after a turn in which the value, which stood for this list, gained this entry, if any
+-- the list, the own entries and the count of idle turns after a turn in which the value gained this entry, if any
+module _ {E : Type 0} where
+  abbrev pub list_after : List E → Option E → List E
+  list_after list None = list
+  list_after list (Some e) = list ++ e ∷ []
+
+  abbrev pub mine_after : List (ℕ × E) → ℕ → Option E → List (ℕ × E)
+  mine_after mine number None = mine
+  mine_after mine number (Some e) = mine ++ (number, e) ∷ []
+
+  abbrev pub idle_after : ℕ → Option E → ℕ
+  idle_after idle None = idle + 1
+  idle_after idle (Some e) = idle
+
+-- the pass after a turn: the value stood for this list, and gained this entry, if any, under this number
 abbrev pub after_turn : {T E : Type 0} → PassView T E → ℕ → List E → Option E → PassView T E
-after_turn pass number list None = record pass { seen = list; idle = pass.idle + 1 }
-after_turn pass number list (Some e) = record pass { seen = list ++ e ∷ []; mine = pass.mine ++ (number, e) ∷ [] }
+after_turn pass number list gained = record pass { seen = list_after list gained; mine = mine_after pass.mine number gained; idle = idle_after pass.idle gained }
+
+-- a pass of the same turnstile, with as many parts
+abbrev pub IsSamePass : {T E : Type 0} → PassView T E → PassView T E → Type 0
+IsSamePass old new = (new.table ≡ old.table) × (new.start ≡ old.start) × (new.parts ≡ old.parts)
 
 -- The job was served once, by a value of this turnstile that stood for all that was published, and the pass has what came of it.
 pub record Served {T E S J A : Type 0} (setting : T → S) (first : T → ℕ) (entries : T → List E) (sound : T → Type 0) (family : E → ℕ) (joins : Option ℕ) (gives : T → J → A → Option E → Type 0)

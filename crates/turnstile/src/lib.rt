@@ -9,3 +9,6 @@ mod view;
 
 pub use standing::{Kept, Standing};
 pub use turnstile::{Busy, Pass, Turnstile};
+
+#[cfg(test)]
+mod tests;

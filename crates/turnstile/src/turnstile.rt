@@ -3,7 +3,7 @@ ghost use Rattle.std.specs.Prelude.{◌≡◌, ◌≢◌, ℕ, ◌+◌, ◌-◌,
 ghost use mathlib.Core.List.{IsPrefix};
 ghost use Rattle.turnstile.specs.Standing.{MayJoin, family_entries};
 ghost use Rattle.turnstile.specs.Rule.{all_parts};
-ghost use Rattle.turnstile.specs.Pass.{IsOf, Stood, Served, first_pass, new_pass, both_passes, HasLearned};
+ghost use Rattle.turnstile.specs.Pass.{IsOf, IsSamePass, Stood, Served, first_pass, new_pass, both_passes, HasLearned};
 ghost use Rattle.turnstile.specs.Log.{entries_of, numbered};
 
 use crate::passing::{cut, join};
@@ -106,6 +106,7 @@ impl<T: Standing> Turnstile<T> {
         requires family { MayJoin T.family (T.joins job.now) pass.mine }
         requires asks { T.asks job.now (family_entries T.family (T.joins job.now) (entries_of pass.mine)) }
         ensures served { IfOk result.1 (λ answer. Served T.setting T.first T.entries T.sound T.family (T.joins job.now) T.gives self.now pass job.now answer result.0) }
+        ensures same { IsSamePass pass result.0 }
         ensures busy { IfErr result.1 (λ _. result.0 ≡ record pass { lost = pass.lost + 1 }) }
         ensures stood { Stood T.entries T.first T.family self.now result.0 }
     {
@@ -127,6 +128,7 @@ impl<T: Standing> Turnstile<T> {
         requires family { MayJoin T.family (T.joins job.now) pass.mine }
         requires asks { T.asks job.now (family_entries T.family (T.joins job.now) (entries_of pass.mine)) }
         ensures served { (losses : ℕ) × Served T.setting T.first T.entries T.sound T.family (T.joins job.now) T.gives self.now (record pass { lost = pass.lost + losses }) job.now result.1 result.0 }
+        ensures same { IsSamePass pass result.0 }
         ensures stood { Stood T.entries T.first T.family self.now result.0 }
     {
         let mut pass = pass;
