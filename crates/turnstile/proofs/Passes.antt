@@ -1,5 +1,5 @@
 -- What a pass has after a turn, from what its seat was told.
-use Rattle.std.proofs.Common.{◌≡◌, ◌≢◌, ℕ, ◌+◌, ◌<◌, ◌≤◌, Bool, true, false, List, [], ◌∷◌, ◌++◌, map, length, Contains, refl, sym, ap, ◌∙◌, subst, arith, Option, Some, None}
+use Rattle.std.proofs.Common.{◌≡◌, ◌≢◌, ℕ, suc, ◌+◌, ◌<◌, ◌≤◌, Bool, true, false, List, [], ◌∷◌, ◌++◌, map, length, Contains, refl, sym, ap, ◌∙◌, subst, arith, Option, Some, None}
 use mathlib.Core.List.{IsPrefix}
 use Rattle.std.proofs.lemmas.List.Elements.{filter-append}
 use Rattle.atomic_table.specs.Table.{Me}
@@ -85,6 +85,14 @@ module _ {T E S : Type 0} (setting : T → S) (first : T → ℕ) (entries : T �
             ∙ (view_after later me.0 (Some list) n (entries h.value) h.gained
             ∙ (ap (λ (z : TableId). after_turn (pass_view z me.0) n (entries h.value) h.gained) same ∙ ap (λ (p : PassView T E). after_turn p n (entries h.value) h.gained) is)));
       }
+
+-- the entry that a turn gained is the last of the own ones
+pub gained_is_mine : {T E : Type 0} (pass after : PassView T E) (number : ℕ) (list : List E) (e : E) → after ≡ after_turn pass number list (Some e) → Contains after.mine (number, e)
+gained_is_mine {T} {E} pass after number list e is = subst (λ (l : List (ℕ × E)). Contains l (number, e)) (sym (ap (λ (p : PassView T E). p.mine) is)) (last pass.mine)
+  where
+    last : (xs : List (ℕ × E)) → Contains (xs ++ (number, e) ∷ []) (number, e)
+    last [] = (0, omega arith, refl)
+    last (x ∷ xs) = let r = last xs in let b = r.1 in (suc r.0, omega arith, r.2)
 
 -- a loss after some losses
 pub lost_more : {T E : Type 0} (p q r : PassView T E) (n : ℕ) → q ≡ record p { lost = p.lost + n } → r ≡ record q { lost = q.lost + 1 } → r ≡ record p { lost = p.lost + (n + 1) }
