@@ -1,5 +1,5 @@
 -- The first state of a turnstile, and the last: the pass with all parts made every entry.
-use Rattle.std.proofs.Common.{◌≡◌, ◌≢◌, ◌⊎◌, ℕ, zero, suc, ◌+◌, ◌<◌, ◌≤◌, List, [], ◌∷◌, ◌++◌, map, length, set, sum_by, All, refl, sym, ap, ◌∙◌, subst, arith, Option, Some, None}
+use Rattle.std.proofs.Common.{◌≡◌, ◌≢◌, ℕ, zero, suc, ◌+◌, ◌<◌, List, [], ◌∷◌, ◌++◌, length, set, All, refl, sym, ap, ◌∙◌, subst, arith, Option, Some, None}
 use mathlib.Core.Option as option
 use mathlib.Core.Option.{some, none, some-injective, some-ne-none}
 use mathlib.Core.Logic.{dite}
@@ -10,13 +10,13 @@ use Rattle.std.proofs.lemmas.List.{append-nil}
 use Rattle.atomic_table.specs.Table.{State, opening, Final, Seen}
 use Rattle.atomic_table.proofs.Lists.{set_else}
 use Rattle.turnstile.specs.declared.view.View.{View}
-use Rattle.turnstile.specs.Log.{entries_of, owned, numbered, Families}
-use Rattle.turnstile.specs.Rule.{turn_of, inside_of, all_parts, first_view, Sees, Knows, Stands}
+use Rattle.turnstile.specs.Log.{entries_of, numbered}
+use Rattle.turnstile.specs.Rule.{inside_of, all_parts, first_view, Knows, Stands}
 use Rattle.turnstile.specs.Plays.{spent_view}
 use Rattle.turnstile.specs.Pass.{TurnstileView, PassView, pass_view}
 use Rattle.atomic_table.specs.Seated.{TableId}
 use Rattle.turnstile.proofs.Logs.{owned_all, owned_nothing}
-use Rattle.turnstile.proofs.Lists.{at_bound, sum_set}
+use Rattle.turnstile.proofs.Lists.{sum_set}
 use Rattle.turnstile.proofs.Seats.{inside_own, sees_prefix}
 
 at_exists : {A : Type 0} (l : List A) (i : ℕ) → i < length l → (a : A) × (get_elem? l i ≡ some a)

@@ -3,9 +3,9 @@ use Rattle.std.proofs.Common.{◌≡◌, ℕ, ◌+◌, ◌%◌, ◌^◌, ◌<◌
 use mathlib.Core.Option.{none}
 use Rattle.atomic_table.specs.Table.{State, Me, step, Allows}
 use Rattle.turnstile.specs.declared.view.View.{View}
-use Rattle.turnstile.specs.Standing.{Fits, family_number, MayJoin, Adds}
+use Rattle.turnstile.specs.Standing.{Fits, family_number, Adds}
 use Rattle.turnstile.specs.Rule.{Stands}
-use Rattle.turnstile.specs.Plays.{Published, Left, LeftIdle, IsDone, turn_ended}
+use Rattle.turnstile.specs.Plays.{Published, Left, LeftIdle, IsDone}
 use Rattle.turnstile.proofs.Turning.{publishes_as, leaves_as, leaves_idle_as}
 
 module _ {E : Type 0} where

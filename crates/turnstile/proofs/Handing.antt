@@ -1,24 +1,24 @@
 -- Passes are cut in two and put together, and a pass learns what is published.
-use Rattle.std.proofs.Common.{◌≡◌, ◌≢◌, ◌⊎◌, ℕ, zero, suc, ◌+◌, ◌-◌, ◌<◌, ◌≤◌, eqb, leb, cond, Bool, true, false, List, [], ◌∷◌, ◌++◌, map, length, get_or, take, set, sum_by, All, refl, sym, ap, ◌∙◌, subst, ⊎_elim, inl, inr, arith, Option, Some, None}
+use Rattle.std.proofs.Common.{◌≡◌, ◌≢◌, ℕ, zero, suc, ◌+◌, ◌<◌, ◌≤◌, leb, cond, Bool, true, false, List, [], ◌∷◌, ◌++◌, map, length, get_or, take, set, refl, sym, ap, ◌∙◌, subst, ⊎_elim, arith, Option, None}
 use mathlib.Core.Option as option
 use mathlib.Core.Option.{some, none, some-injective, some-ne-none}
 use mathlib.Core.Logic.{dite}
-use native.Mathlib.Decide.{ℕ_discrete, dec_le}
+use native.Mathlib.Decide.{ℕ_discrete}
 use mathlib.Core.List.{IsPrefix}
 use lib.ListN.{get_elem?}
 use Rattle.std.proofs.lemmas.Bool.Decides.{nat_tests}
-use Rattle.std.proofs.lemmas.List.{length-append, length-map, length-set, length-take-le, append-nil}
+use Rattle.std.proofs.lemmas.List.{length-append, length-map, length-set, length-take-le}
 use Rattle.std.proofs.lemmas.List.Sums.{sum_by_push}
 use Rattle.atomic_table.specs.Table.{State, Me, Act, step, keeps, stepped, Allows, Splits, Joins}
 use Rattle.atomic_table.proofs.Lists.{at_set, at_map}
 use Rattle.turnstile.specs.declared.view.View.{View}
-use Rattle.turnstile.specs.Log.{entries_of, owned, handed, merged, Families}
+use Rattle.turnstile.specs.Log.{entries_of, handed, merged, Families}
 use Rattle.turnstile.specs.Rule.{turn_of, inside_of, Sees, Knows, Stands}
 use Rattle.turnstile.specs.Plays.{IsShare, Learned, Settled, longer, shorter, kept_part, new_part, joined, spent_view}
 use Rattle.turnstile.proofs.Logs.{owned_none, owned_handed-own, owned_handed-spent, owned_handed-other, handed_own, handed_other, entries_of-handed, at_unmap}
 use Rattle.turnstile.proofs.Lists.{at_bound, at_snoc_place, same_some, seats_set, sum_set, prefix_of_two}
 use Rattle.turnstile.proofs.Seats.{inside_other, sees_all, sees_prefix, share}
-use Rattle.turnstile.proofs.Turning.{quiet, share_of, spelled, number_is}
+use Rattle.turnstile.proofs.Turning.{quiet, share_of, spelled}
 
 module _ {E : Type 0} where
   entries_take-handed : (a b c : ℕ) (log : List (ℕ × E)) → entries_of (take c (map (handed a b) log)) ≡ entries_of (take c log)

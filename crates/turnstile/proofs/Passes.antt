@@ -1,12 +1,12 @@
 -- What a pass has after a turn, from what its seat was told.
-use Rattle.std.proofs.Common.{◌≡◌, ◌≢◌, ℕ, suc, ◌+◌, ◌<◌, ◌≤◌, Bool, true, false, List, [], ◌∷◌, ◌++◌, map, length, Contains, refl, sym, ap, ◌∙◌, subst, arith, Option, Some, None}
+use Rattle.std.proofs.Common.{◌≡◌, ℕ, suc, ◌+◌, List, [], ◌∷◌, ◌++◌, length, Contains, refl, sym, ap, ◌∙◌, subst, arith, Option, Some, None}
 use mathlib.Core.List.{IsPrefix}
 use Rattle.std.proofs.lemmas.List.Elements.{filter-append}
 use Rattle.atomic_table.specs.Table.{Me}
 use Rattle.atomic_table.specs.Seated.{TableId}
 use Rattle.turnstile.specs.declared.view.View.{View}
 use Rattle.turnstile.specs.Standing.{Fits, MayJoin, of_family, family_entries}
-use Rattle.turnstile.specs.Log.{entries_of, owned}
+use Rattle.turnstile.specs.Log.{entries_of}
 use Rattle.turnstile.specs.Plays.{IsShare, Won, IsReady, HasServed, turn_ended}
 use Rattle.turnstile.specs.Pass.{TurnstileView, PassView, pass_view, after_turn, Served}
 use Rattle.turnstile.proofs.Logs.{owned_contains, own_filter, older_filter, family_maker}

@@ -1,5 +1,5 @@
 -- A turn: it is claimed, an entry is counted, and the turn is given back.
-use Rattle.std.proofs.Common.{◌≡◌, ◌≢◌, ◌⊎◌, ℕ, zero, suc, ◌+◌, ◌-◌, ◌%◌, ◌^◌, ◌<◌, ◌≤◌, eqb, cond, Bool, true, false, List, [], ◌∷◌, ◌++◌, map, length, get_or, take, set, sum_by, All, Contains, refl, sym, ap, ◌∙◌, subst, ⊎_elim, inl, inr, arith, eq-eqb, ne_eqb, Option, Some, None}
+use Rattle.std.proofs.Common.{◌≡◌, ◌≢◌, ℕ, ◌+◌, ◌%◌, ◌^◌, ◌<◌, ◌≤◌, eqb, List, [], ◌∷◌, ◌++◌, length, get_or, set, sum_by, Contains, refl, sym, ap, ◌∙◌, subst, ⊎_elim, arith, Option, Some, None}
 use mathlib.Core.Option as option
 use mathlib.Core.Option.{some, none, some-injective, some-ne-none}
 use mathlib.Core.List.{IsPrefix}
@@ -13,9 +13,9 @@ use Rattle.turnstile.specs.declared.view.View.{View}
 use Rattle.turnstile.specs.Log.{entries_of, owned, Families}
 use Rattle.turnstile.specs.Standing.{family_number, MayJoin}
 use Rattle.turnstile.specs.Rule.{turn_of, inside_of, Sees, Knows, Stands}
-use Rattle.turnstile.specs.Plays.{IsShare, Won, Lost, Claimed, Published, Left, LeftIdle}
+use Rattle.turnstile.specs.Plays.{IsShare, Won, Claimed, Published, Left, LeftIdle}
 use Rattle.turnstile.proofs.Logs.{owned_push-own, owned_contains}
-use Rattle.turnstile.proofs.Lists.{at_bound, at_snoc_place, one_only, same_some, seats_set, sum_set, snoc_list, prefix_refl, prefix_longer, entries_push}
+use Rattle.turnstile.proofs.Lists.{at_bound, at_snoc_place, one_only, same_some, seats_set, sum_set, snoc_list, prefix_longer, entries_push}
 use Rattle.turnstile.proofs.Seats.{inside_own, inside_other, inside_is, sees_all, sees_prefix, share, knows_turned, knows_grown}
 
 module _ {T E : Type 0} (entries : T → List E) (first : T → ℕ) (fits : T → List E → T → Type 0) (family : E → ℕ) (start : T) where

@@ -1,5 +1,5 @@
 -- What each step tells the seat that made it.
-use Rattle.std.specs.Prelude.{◌≡◌, ◌≢◌, ℕ, suc, ◌+◌, ◌-◌, ◌<◌, ◌≤◌, nat_le, ◌^◌, cond, Bool, List, [], ◌∷◌, ◌++◌, length, All, Option, None, Some}
+use Rattle.std.specs.Prelude.{◌≡◌, ◌≢◌, ℕ, ◌+◌, ◌-◌, ◌<◌, ◌≤◌, nat_le, ◌^◌, cond, Bool, List, [], ◌∷◌, ◌++◌, length, All, Option, None, Some}
 use mathlib.Core.List.{IsPrefix}
 use Rattle.atomic_table.specs.Table.{Me, Step}
 use Rattle.turnstile.specs.declared.view.View.{View}

@@ -1,6 +1,6 @@
 -- What holds of a turnstile between any two steps.
 -- Word 0 is the turn, 1 while a seat is inside. Word 1 counts the entries that were added. The one slot has the value.
-use Rattle.std.specs.Prelude.{◌≡◌, ◌≢◌, ℕ, ◌+◌, ◌<◌, ◌≤◌, ◌==◌, cond, List, [], ◌∷◌, ◌++◌, length, take, sum_by, All, Option, None, Some}
+use Rattle.std.specs.Prelude.{◌≡◌, ◌≢◌, ℕ, ◌<◌, ◌≤◌, ◌==◌, cond, List, [], ◌∷◌, ◌++◌, length, take, sum_by, All, Option, None, Some}
 use mathlib.Core.Option.{some, none}
 use mathlib.Core.Option as option
 use mathlib.Core.List.{IsPrefix}

@@ -1,4 +1,4 @@
-use Rattle.std.proofs.Common.{◌+◌, ◌<◌, sym, ap, ◌∙◌, subst, arith}
+use Rattle.std.proofs.Common.{ap, ◌∙◌, arith}
 use Rattle.turnstile.specs.Standing.{Fits}
 use Rattle.turnstile.proofs.Handing.{joins, settles_as}
 use Rattle.turnstile.proofs.passing.join.Goals as goal

@@ -1,4 +1,4 @@
-use Rattle.std.proofs.Common.{List, Some, None, length, ◌≡◌, ◌++◌, ◌+◌, sym, ap, ◌∙◌, subst, arith}
+use Rattle.std.proofs.Common.{Some, None, ◌≡◌, sym, ap, ◌∙◌, subst}
 use mathlib.Core.List.{IsPrefix}
 use Rattle.turnstile.specs.Standing.{Fits}
 use Rattle.turnstile.specs.Pass.{TurnstileView}

@@ -1,4 +1,4 @@
-use Rattle.std.proofs.Common.{refl, sym, ap, ◌∙◌, subst}
+use Rattle.std.proofs.Common.{refl}
 use Rattle.turnstile.specs.Standing.{Fits}
 use Rattle.turnstile.proofs.Closing.{opens_as}
 use Rattle.turnstile.proofs.turnstile.Turnstile.new.Goals as goal

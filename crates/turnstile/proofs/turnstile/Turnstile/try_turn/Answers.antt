@@ -1,4 +1,4 @@
-use Rattle.std.proofs.Common.{List, Some, sym, ap, ◌∙◌, subst}
+use Rattle.std.proofs.Common.{Some, sym, ap, ◌∙◌, subst}
 use Rattle.std.proofs.lemmas.Bool.Decides.{when_true}
 use Rattle.turnstile.specs.Standing.{MayJoin, family_entries}
 use Rattle.turnstile.specs.Log.{entries_of}
