@@ -1,0 +1,17 @@
+//! Reads the expressions of WebAssembly modules: numbers, instructions and the blocks that they open.
+//!
+//! [`read_code`] answers Ok exactly on the grammar of expressions (chapter 5 of the WebAssembly Core
+//! Specification 1.0, in the profile without floating point), and tells the first fault and its place. The
+//! layer above reads the other parts of a module with the same numbers, vectors and scopes.
+#![tactic(auto)]
+
+mod fault;
+mod numbers;
+mod opcodes;
+mod scope;
+mod vectors;
+
+pub use fault::{ReadFault, ReadKind, Stop};
+pub use numbers::{read_count, read_s32, read_s64, read_u32};
+pub use scope::{Scope, fault_at, short_of};
+pub use vectors::{Field, Index, read_vector};
