@@ -2,3 +2,4 @@ pub mod Opcodes
 pub mod Grammar
 pub mod Decoding
 pub mod Reading
+pub mod Instructions

@@ -6,12 +6,14 @@
 #![tactic(auto)]
 
 mod fault;
+mod instructions;
 mod numbers;
 mod opcodes;
 mod scope;
 mod vectors;
 
 pub use fault::{ReadFault, ReadKind, Stop};
+pub use instructions::read_value_type;
 pub use numbers::{read_count, read_s32, read_s64, read_u32};
 pub use scope::{Scope, fault_at, short_of};
 pub use vectors::{Field, Index, read_vector};
