@@ -1,10 +1,14 @@
 -- Reading items one after the other, as a loop does.
-use Rattle.std.proofs.Common.{◌≡◌, ℕ, suc, ◌-◌, ◌+◌, ◌≤◌, ◌<◌, List, [], ◌∷◌, ◌++◌, Result, Ok, Err, refl, sym, ap, ◌∙◌, append_assoc, arith}
+use Rattle.std.proofs.Common.{◌≡◌, ℕ, suc, Bool, true, false, ◌-◌, ◌+◌, ◌≤◌, ◌<◌, List, [], ◌∷◌, ◌++◌, Result, Ok, Err, refl, sym, ap, ◌∙◌, append_assoc, arith}
 use Rattle.std.proofs.lemmas.List.{append-nil}
 use Rattle.wasm_code.specs.declared.fault.ReadFault.{ReadFault}
 use Rattle.wasm_code.specs.declared.fault.Stop.{Stop}
 use Rattle.wasm_code.specs.declared.fault.Stop.TheVariants as stops
-use Rattle.wasm_code.specs.Reading.{Reading, ◌>>=◌, Fails, many_at}
+use Rattle.wasm_types.specs.declared.instructions.Instr.{Instr}
+use Rattle.wasm_types.specs.Nested.{role_of}
+use Rattle.wasm_code.specs.declared.scope.Scope.{Scope}
+use Rattle.wasm_code.specs.Reading.{Reading, ◌>>=◌, Fails, short_of, many_at}
+use Rattle.wasm_code.specs.Instructions.{instr_at, is_last, opens_after, instrs_at}
 
 -- what was read before, and what is still read
 abbrev pub with_front : {A : Type 0} → List A → Reading (List A) → Reading (List A)
@@ -37,3 +41,31 @@ is_done {A} item_at front count i bytes total le so_far =
     let k : count - i ≡ 0 = omega arith in
     let one : with_front front (many_at item_at (count - i) bytes) ≡ Ok (front, bytes) = rw k (ap (λ (ns : List A). Ok (ns, bytes)) (append-nil front)) in
     sym so_far ∙ one
+
+-- ---- the instructions of an expression
+
+pub turn : (most : ℕ) (opens : List Bool) (scope : Scope) (front : List Instr) (bytes after : List ℕ) (i : Instr) → instr_at opens scope bytes ≡ Ok (i, after) → is_last (role_of i) opens ≡ false
+    → with_front front (instrs_at (suc most) opens scope bytes) ≡ with_front (front ++ i ∷ []) (instrs_at most (opens_after (role_of i) opens) scope after)
+unfolding instrs_at
+turn most opens scope front bytes after i read last = rw (read, last) (regroup front i (instrs_at most (opens_after (role_of i) opens) scope after))
+
+pub last_turn : (most : ℕ) (opens : List Bool) (scope : Scope) (front : List Instr) (bytes after : List ℕ) (i : Instr) → instr_at opens scope bytes ≡ Ok (i, after) → is_last (role_of i) opens ≡ true
+    → with_front front (instrs_at (suc most) opens scope bytes) ≡ Ok (front ++ i ∷ [], after)
+unfolding instrs_at
+last_turn most opens scope front bytes after i read last = rw (read, last) refl
+
+pub no_turn : (most : ℕ) (opens : List Bool) (scope : Scope) (front : List Instr) (bytes : List ℕ) (e : Stop) (total : Reading (List Instr)) → Fails e (instr_at opens scope bytes)
+    → with_front front (instrs_at (suc most) opens scope bytes) ≡ total → Fails e total
+unfolding instrs_at
+no_turn most opens scope front bytes stops.Memory total read so_far = tt
+no_turn most opens scope front bytes (stops.Fault f) total read so_far =
+    let one : with_front front (instrs_at (suc most) opens scope bytes) ≡ Err f = rw read refl in
+    sym so_far ∙ one
+
+pub no_more : (opens : List Bool) (scope : Scope) (front : List Instr) (bytes : List ℕ) → with_front front (instrs_at 0 opens scope bytes) ≡ Err (short_of scope)
+unfolding instrs_at
+no_more opens scope front bytes = refl
+
+pub with_none : {A : Type 0} (read : Reading (List A)) → with_front [] read ≡ read
+with_none (Ok x) = refl
+with_none (Err f) = refl

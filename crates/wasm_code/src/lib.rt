@@ -5,6 +5,7 @@
 //! layer above reads the other parts of a module with the same numbers, vectors and scopes.
 #![tactic(auto)]
 
+mod expressions;
 mod fault;
 mod instructions;
 mod numbers;
@@ -12,6 +13,7 @@ mod opcodes;
 mod scope;
 mod vectors;
 
+pub use expressions::read_expression;
 pub use fault::{ReadFault, ReadKind, Stop};
 pub use instructions::read_value_type;
 pub use numbers::{read_count, read_s32, read_s64, read_u32};
