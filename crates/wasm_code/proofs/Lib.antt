@@ -1,2 +1,4 @@
 pub mod Steps
 pub mod Loop
+pub mod ExactNumbers
+pub mod Rows

@@ -3,3 +3,4 @@ pub mod Grammar
 pub mod Decoding
 pub mod Reading
 pub mod Instructions
+pub mod Exact
