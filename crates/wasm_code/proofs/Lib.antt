@@ -2,3 +2,4 @@ pub mod Steps
 pub mod Loop
 pub mod ExactNumbers
 pub mod Rows
+pub mod ExactInstructions
