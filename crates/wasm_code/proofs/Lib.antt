@@ -3,3 +3,4 @@ pub mod Loop
 pub mod ExactNumbers
 pub mod Rows
 pub mod ExactInstructions
+pub mod Nesting
