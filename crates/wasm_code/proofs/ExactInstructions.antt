@@ -191,8 +191,8 @@ memory_sound unknown scope code bytes rest i =
     choice {T = Reading Instr} code 0x3F (zero_at scope bytes >>= λ z. Ok (MemorySize, z.1)) _ (Ok (i, rest)) (λ k. IsBehind k bytes i rest) (size_row scope MemorySize i bytes rest (λ r h. h)) (
     choice {T = Reading Instr} code 0x40 (zero_at scope bytes >>= λ z. Ok (MemoryGrow, z.1)) _ (Ok (i, rest)) (λ k. IsBehind k bytes i rest) (size_row scope MemoryGrow i bytes rest (λ r h. h)) (
     tested (ltb code 0x36) _ _ (Ok (i, rest)) (IsBehind code bytes i rest)
-      (λ t. access_row scope unknown code (load_at code) (λ k x y. Load k x y) i bytes rest (λ k x y r o h. (sym (load_there code k o), h)))
-      (λ f. access_row scope unknown code (store_at code) (λ k x y. Store k x y) i bytes rest (λ k x y r o h. (sym (store_there code k o), h)))))
+    (λ t. access_row scope unknown code (load_at code) (λ k x y. Load k x y) i bytes rest (λ k x y r o h. (sym (load_there code k o), h)))
+    (λ f. access_row scope unknown code (store_at code) (λ k x y. Store k x y) i bytes rest (λ k x y r o h. (sym (store_there code k o), h)))))
 
 numeric_row : (unknown : ReadFault) (code : ℕ) (bytes rest : List ℕ) (i : Instr) → ok_or unknown (numeric_at code) bytes ≡ Ok (i, rest) → IsBehind code bytes i rest
 numeric_row unknown code bytes rest i e =

@@ -110,15 +110,15 @@ pub count_exact : (limit : ℕ) (scope : Scope) → IsExact (count_at limit scop
 unfolding count_at
 count_exact limit scope = record {
   sound = λ bytes rest x e.
-    let r = bind_ok (u32_at scope bytes) (λ c. cond (ltb limit c.0) (Err (fault_at TooLarge scope bytes)) (Ok (c.0, c.1))) (x, rest) e in
-    let g = guard_ok (ltb limit r.0.0) (fault_at TooLarge scope bytes) (Ok (r.0.0, r.0.1)) (x, rest) r.2 in
-    let same = pair_is r.0.0 x r.0.1 rest g.1 in
-    let is = (u32_exact scope).sound bytes r.0.1 r.0.0 r.1 in
-    (subst (λ (k : ℕ). k ≤ limit) same.0 (ltb-false limit r.0.0 g.0), subst (λ (p : ℕ × List ℕ). IsU32 bytes p.0 p.1) (ap2_pair same.0 same.1) is);
+      let r = bind_ok (u32_at scope bytes) (λ c. cond (ltb limit c.0) (Err (fault_at TooLarge scope bytes)) (Ok (c.0, c.1))) (x, rest) e in
+      let g = guard_ok (ltb limit r.0.0) (fault_at TooLarge scope bytes) (Ok (r.0.0, r.0.1)) (x, rest) r.2 in
+      let same = pair_is r.0.0 x r.0.1 rest g.1 in
+      let is = (u32_exact scope).sound bytes r.0.1 r.0.0 r.1 in
+      (subst (λ (k : ℕ). k ≤ limit) same.0 (ltb-false limit r.0.0 g.0), subst (λ (p : ℕ × List ℕ). IsU32 bytes p.0 p.1) (ap2_pair same.0 same.1) is);
   complete = λ bytes rest x h.
-    let read = (u32_exact scope).complete bytes rest x h.1 in
-    let fits : ltb limit x ≡ false = le-ltb limit x h.0 in
-    rw (read, fits) refl;
+      let read = (u32_exact scope).complete bytes rest x h.1 in
+      let fits : ltb limit x ≡ false = le-ltb limit x h.0 in
+      rw (read, fits) refl;
 }
 
 pub many_sound : {A : Type 0} (read : List ℕ → Reading A) (Is : List ℕ → A → List ℕ → Type 0) → IsExact read Is → (n : ℕ) (bytes rest : List ℕ) (xs : List A) → many_at read n bytes ≡ Ok (xs, rest) → (length xs ≡ n) × AreMany Is bytes xs rest
@@ -147,12 +147,12 @@ pub vector_exact : {A : Type 0} (limit : ℕ) (read : Scope → List ℕ → Rea
 unfolding vector_at
 vector_exact {A} limit read Is exact scope = record {
   sound = λ bytes rest xs e.
-    let r = bind_ok (count_at limit scope bytes) (λ c. many_at (read scope) c.0 c.1) (xs, rest) e in
-    let count = (count_exact limit scope).sound bytes r.0.1 r.0.0 r.1 in
-    let items = many_sound (read scope) Is (exact scope) r.0.0 r.0.1 rest xs r.2 in
-    (subst (λ (k : ℕ). k ≤ limit) (sym items.0) count.0, (r.0.1, subst (λ (k : ℕ). IsU32 bytes k r.0.1) (sym items.0) count.1, items.1));
+      let r = bind_ok (count_at limit scope bytes) (λ c. many_at (read scope) c.0 c.1) (xs, rest) e in
+      let count = (count_exact limit scope).sound bytes r.0.1 r.0.0 r.1 in
+      let items = many_sound (read scope) Is (exact scope) r.0.0 r.0.1 rest xs r.2 in
+      (subst (λ (k : ℕ). k ≤ limit) (sym items.0) count.0, (r.0.1, subst (λ (k : ℕ). IsU32 bytes k r.0.1) (sym items.0) count.1, items.1));
   complete = λ bytes rest xs h.
-    let count = (count_exact limit scope).complete bytes h.1.0 (length xs) (h.0, h.1.1) in
-    let items = many_complete (read scope) Is (exact scope) h.1.0 rest xs h.1.2 in
-    rw (count, items) refl;
+      let count = (count_exact limit scope).complete bytes h.1.0 (length xs) (h.0, h.1.1) in
+      let items = many_complete (read scope) Is (exact scope) h.1.0 rest xs h.1.2 in
+      rw (count, items) refl;
 }

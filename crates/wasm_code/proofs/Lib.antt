@@ -4,3 +4,5 @@ pub mod ExactNumbers
 pub mod Rows
 pub mod ExactInstructions
 pub mod Nesting
+pub mod ExactExpressions
+pub mod CodeLaws

@@ -176,14 +176,14 @@ mapped (Some x) make i P h e = subst P (some_is (make x) i e) (h x refl)
 pub numeric_sound : (code : ℕ) (i : Instr) → numeric_at code ≡ Some i → IsNumeric code i
 unfolding numeric_at
 numeric_sound code i =
-    tested (ltb code 69) _ _ (Some i) (IsNumeric code i) (λ t0 e. none_is i e) (λ f0. 
-    tested (ltb code 70) _ _ (Some i) (IsNumeric code i) (λ t1 e. let low : 69 ≤ code = ltb-false code 69 f0 in let high = ltb-true code 70 t1 in subst (λ j. IsNumeric code j) (some_is (I32Test tests.Eqz) i e) (omega arith, λ bytes. refl)) (λ f1. 
-    tested (ltb code 80) _ _ (Some i) (IsNumeric code i) (λ t2 e. let low : 70 ≤ code = ltb-false code 70 f1 in mapped (compare_at (code - 70)) I32Compare i (λ j. IsNumeric code j) (λ x e'. (let k = compare_there (code - 70) x e' in omega (arith, k), λ bytes. refl)) e) (λ f2. 
-    tested (ltb code 81) _ _ (Some i) (IsNumeric code i) (λ t3 e. let low : 80 ≤ code = ltb-false code 80 f2 in let high = ltb-true code 81 t3 in subst (λ j. IsNumeric code j) (some_is (I64Test tests.Eqz) i e) (omega arith, λ bytes. refl)) (λ f3. 
-    tested (ltb code 91) _ _ (Some i) (IsNumeric code i) (λ t4 e. let low : 81 ≤ code = ltb-false code 81 f3 in mapped (compare_at (code - 81)) I64Compare i (λ j. IsNumeric code j) (λ x e'. (let k = compare_there (code - 81) x e' in omega (arith, k), λ bytes. refl)) e) (λ f4. 
-    tested (ltb code 103) _ _ (Some i) (IsNumeric code i) (λ t5 e. none_is i e) (λ f5. 
-    tested (ltb code 106) _ _ (Some i) (IsNumeric code i) (λ t6 e. let low : 103 ≤ code = ltb-false code 103 f5 in mapped (unary_at (code - 103)) I32Unary i (λ j. IsNumeric code j) (λ x e'. (let k = unary_there (code - 103) x e' in omega (arith, k), λ bytes. refl)) e) (λ f6. 
-    tested (ltb code 121) _ _ (Some i) (IsNumeric code i) (λ t7 e. let low : 106 ≤ code = ltb-false code 106 f6 in mapped (binary_at (code - 106)) I32Binary i (λ j. IsNumeric code j) (λ x e'. (let k = binary_there (code - 106) x e' in omega (arith, k), λ bytes. refl)) e) (λ f7. 
-    tested (ltb code 124) _ _ (Some i) (IsNumeric code i) (λ t8 e. let low : 121 ≤ code = ltb-false code 121 f7 in mapped (unary_at (code - 121)) I64Unary i (λ j. IsNumeric code j) (λ x e'. (let k = unary_there (code - 121) x e' in omega (arith, k), λ bytes. refl)) e) (λ f8. 
-    tested (ltb code 139) _ _ (Some i) (IsNumeric code i) (λ t9 e. let low : 124 ≤ code = ltb-false code 124 f8 in mapped (binary_at (code - 124)) I64Binary i (λ j. IsNumeric code j) (λ x e'. (let k = binary_there (code - 124) x e' in omega (arith, k), λ bytes. refl)) e) (λ f9. 
+    tested (ltb code 69) _ _ (Some i) (IsNumeric code i) (λ t0 e. none_is i e) (λ f0.
+    tested (ltb code 70) _ _ (Some i) (IsNumeric code i) (λ t1 e. let low : 69 ≤ code = ltb-false code 69 f0 in let high = ltb-true code 70 t1 in subst (λ j. IsNumeric code j) (some_is (I32Test tests.Eqz) i e) (omega arith, λ bytes. refl)) (λ f1.
+    tested (ltb code 80) _ _ (Some i) (IsNumeric code i) (λ t2 e. let low : 70 ≤ code = ltb-false code 70 f1 in mapped (compare_at (code - 70)) I32Compare i (λ j. IsNumeric code j) (λ x e'. (let k = compare_there (code - 70) x e' in omega (arith, k), λ bytes. refl)) e) (λ f2.
+    tested (ltb code 81) _ _ (Some i) (IsNumeric code i) (λ t3 e. let low : 80 ≤ code = ltb-false code 80 f2 in let high = ltb-true code 81 t3 in subst (λ j. IsNumeric code j) (some_is (I64Test tests.Eqz) i e) (omega arith, λ bytes. refl)) (λ f3.
+    tested (ltb code 91) _ _ (Some i) (IsNumeric code i) (λ t4 e. let low : 81 ≤ code = ltb-false code 81 f3 in mapped (compare_at (code - 81)) I64Compare i (λ j. IsNumeric code j) (λ x e'. (let k = compare_there (code - 81) x e' in omega (arith, k), λ bytes. refl)) e) (λ f4.
+    tested (ltb code 103) _ _ (Some i) (IsNumeric code i) (λ t5 e. none_is i e) (λ f5.
+    tested (ltb code 106) _ _ (Some i) (IsNumeric code i) (λ t6 e. let low : 103 ≤ code = ltb-false code 103 f5 in mapped (unary_at (code - 103)) I32Unary i (λ j. IsNumeric code j) (λ x e'. (let k = unary_there (code - 103) x e' in omega (arith, k), λ bytes. refl)) e) (λ f6.
+    tested (ltb code 121) _ _ (Some i) (IsNumeric code i) (λ t7 e. let low : 106 ≤ code = ltb-false code 106 f6 in mapped (binary_at (code - 106)) I32Binary i (λ j. IsNumeric code j) (λ x e'. (let k = binary_there (code - 106) x e' in omega (arith, k), λ bytes. refl)) e) (λ f7.
+    tested (ltb code 124) _ _ (Some i) (IsNumeric code i) (λ t8 e. let low : 121 ≤ code = ltb-false code 121 f7 in mapped (unary_at (code - 121)) I64Unary i (λ j. IsNumeric code j) (λ x e'. (let k = unary_there (code - 121) x e' in omega (arith, k), λ bytes. refl)) e) (λ f8.
+    tested (ltb code 139) _ _ (Some i) (IsNumeric code i) (λ t9 e. let low : 124 ≤ code = ltb-false code 124 f8 in mapped (binary_at (code - 124)) I64Binary i (λ j. IsNumeric code j) (λ x e'. (let k = binary_there (code - 124) x e' in omega (arith, k), λ bytes. refl)) e) (λ f9.
     λ e. mapped (convert_at code) instrs.Convert i (λ j. IsNumeric code j) (λ x e'. (convert_there code x e', λ bytes. refl)) e))))))))))

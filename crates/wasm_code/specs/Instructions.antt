@@ -1,5 +1,5 @@
 -- Reading instructions and expressions from left to right.
-use Rattle.std.specs.Prelude.{ℕ, zero, suc, ◌==◌, nat_lt, nat_le, ◌||◌, ◌&&◌, Bool, true, false, if◌then◌else◌, Option, Some, None, Result, Ok, Err, List, [], ◌∷◌, length}
+use Rattle.std.specs.Prelude.{ℕ, zero, suc, ◌-◌, slice_range, ◌==◌, nat_lt, nat_le, ◌||◌, ◌&&◌, Bool, true, false, if◌then◌else◌, Option, Some, None, Result, Ok, Err, List, [], ◌∷◌, length}
 use Rattle.wasm_types.specs.declared.types.ValueType.{ValueType}
 use Rattle.wasm_types.specs.declared.types.ValueType.TheVariants as kinds
 use Rattle.wasm_types.specs.declared.values.Value.TheVariants as values
@@ -7,7 +7,7 @@ use Rattle.wasm_types.specs.declared.instructions.Instr.{Instr}
 use Rattle.wasm_types.specs.declared.instructions.Instr.TheVariants.{Unreachable, Nop, Block, Loop, If, Else, End, Br, BrIf, BrTable, Return, Call, CallIndirect, Drop, Select, LocalGet, LocalSet, LocalTee, GlobalGet, GlobalSet, Load, Store, MemorySize, MemoryGrow, Const}
 use Rattle.wasm_types.specs.Nested.{Role, Opens, Parts, Closes, Plain, role_of}
 use Rattle.wasm_code.specs.declared.fault.ReadKind.{ReadKind}
-use Rattle.wasm_code.specs.declared.fault.ReadKind.TheVariants.{BadForm, FloatUsed, NestedTooDeep}
+use Rattle.wasm_code.specs.declared.fault.ReadKind.TheVariants.{BadForm, FloatUsed, NestedTooDeep, SectionSize}
 use Rattle.wasm_code.specs.declared.fault.ReadFault.{ReadFault}
 use Rattle.wasm_code.specs.declared.scope.Scope.{Scope}
 use Rattle.wasm_code.specs.Decoding.{load_at, store_at, numeric_at, opcode_fault}
@@ -145,3 +145,7 @@ instrs_at (suc most) opens scope bytes =
 
 unfoldable pub expression_at : Scope → List ℕ → Reading (List Instr)
 expression_at scope bytes = instrs_at (length bytes) [] scope bytes
+
+-- the expression that begins at a place and may go until another, and the place after it
+unfoldable pub code_at : ℕ → ℕ → List ℕ → Result (List Instr × ℕ) ReadFault
+code_at place until bytes = expression_at (record { end = until; short = SectionSize }) (slice_range bytes place until) >>= λ x. Ok (x.0, until - length x.1)

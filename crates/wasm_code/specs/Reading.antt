@@ -1,8 +1,8 @@
 -- Reading from left to right, with the first fault that is met. What is left to read are the last bytes of a scope, so
 -- their length tells the place.
-use Rattle.std.specs.Prelude.{◌≡◌, ℕ, zero, suc, ◌+◌, ◌-◌, ◌*◌, ◌/◌, min, nat_lt, nat_le, if◌then◌else◌, Option, Some, None, Result, Ok, Err, List, [], ◌∷◌, length}
+use Rattle.std.specs.Prelude.{◌≡◌, ◌⊎◌, ℕ, zero, suc, ◌+◌, ◌-◌, ◌*◌, ◌/◌, min, nat_lt, nat_le, if◌then◌else◌, Option, Some, None, Result, Ok, Err, List, [], ◌∷◌, length}
 use Rattle.wasm_code.specs.declared.fault.ReadKind.{ReadKind}
-use Rattle.wasm_code.specs.declared.fault.ReadKind.TheVariants.{BadLeb, TooLarge}
+use Rattle.wasm_code.specs.declared.fault.ReadKind.TheVariants.{BadLeb, TooLarge, OutOfMemory, SectionSize}
 use Rattle.wasm_code.specs.declared.fault.ReadFault.{ReadFault}
 use Rattle.wasm_code.specs.declared.fault.Stop.{Stop}
 use Rattle.wasm_code.specs.declared.fault.Stop.TheVariants as stops
@@ -34,6 +34,18 @@ Fails (stops.Fault fault) read = read ≡ Err fault
 abbrev pub Gives : {X Y : Type 0} → (X → Y) → Result X Stop → Result Y ReadFault → Type 0
 Gives view (Ok x) read = read ≡ Ok (view x)
 Gives view (Err e) read = Fails e read
+
+abbrev pub no_memory : ReadFault
+no_memory = record { kind = OutOfMemory; place = 0 }
+
+abbrev pub told_of : Stop → ReadFault
+told_of stops.Memory = no_memory
+told_of (stops.Fault fault) = fault
+
+-- The same of a call that tells want of memory as a fault.
+abbrev pub Answers : {X Y : Type 0} → (X → Y) → Result X ReadFault → Result Y ReadFault → Type 0
+Answers view (Ok x) read = read ≡ Ok (view x)
+Answers view (Err fault) read = (fault ≡ no_memory) ⊎ (read ≡ Err fault)
 
 -- ---- numbers: what is wrong with one is told at its first byte
 

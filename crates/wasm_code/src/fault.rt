@@ -2,6 +2,7 @@
 
 ghost use Rattle.std.specs.Prelude.{◌≡◌};
 ghost use Rattle.wasm_code.specs.declared.fault.Stop.TheVariants.{Memory};
+ghost use Rattle.wasm_code.specs.Reading.{told_of};
 
 use std::alloc::{AllocError, AllocFailed};
 
@@ -60,5 +61,18 @@ impl<T: Drop> From<AllocFailed<T>> for Stop {
 
     fn from(_e: AllocFailed<T>) -> Stop {
         Stop::Memory
+    }
+}
+
+/// The fault that is told of a stop. Want of memory stands at place 0.
+pub fn told_of(stop: Stop) -> ReadFault
+    ensures { result ≡ told_of stop }
+{
+    match stop {
+        Stop::Memory => ReadFault {
+            kind: ReadKind::OutOfMemory,
+            place: 0,
+        },
+        Stop::Fault(fault) => fault,
     }
 }

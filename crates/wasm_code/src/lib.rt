@@ -5,6 +5,7 @@
 //! layer above reads the other parts of a module with the same numbers, vectors and scopes.
 #![tactic(auto)]
 
+mod code;
 mod expressions;
 mod fault;
 mod instructions;
@@ -13,8 +14,9 @@ mod opcodes;
 mod scope;
 mod vectors;
 
+pub use code::read_code;
 pub use expressions::read_expression;
-pub use fault::{ReadFault, ReadKind, Stop};
+pub use fault::{ReadFault, ReadKind, Stop, told_of};
 pub use instructions::read_value_type;
 pub use numbers::{read_count, read_s32, read_s64, read_u32};
 pub use scope::{Scope, fault_at, short_of};
