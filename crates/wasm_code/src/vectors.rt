@@ -14,7 +14,7 @@ use wasm_types::Items;
 pub trait Field {
     type Item: Drop;
 
-    ghost reading: { Scope → List ℕ → Reading Self.Item };
+    ghost reading: { Self → Scope → List ℕ → Reading Self.Item };
 
     fn read<'a>(
         &self,
@@ -22,7 +22,7 @@ pub trait Field {
         scope: Scope,
         bytes: &'a [u8],
     ) -> Result<(Self::Item, &'a [u8]), Stop>
-        ensures { Gives (λ x. (x.0, x.1.now)) result (reading scope bytes.now) };
+        ensures { Gives (λ x. (x.0, x.1.now)) result (reading self.now scope bytes.now) };
 }
 
 // So many items. Each takes a byte or reading ends, so the bytes at hand bound the memory.
@@ -33,7 +33,7 @@ fn many<'a, F: Field>(
     count: u32,
     bytes: &'a [u8],
 ) -> Result<(Items<F::Item>, &'a [u8]), Stop>
-    ensures { Gives (λ x. (x.0, x.1.now)) result (many_at (F.reading scope) count bytes.now) }
+    ensures { Gives (λ x. (x.0, x.1.now)) result (many_at (F.reading field.now scope) count bytes.now) }
 {
     let mut items = Vec::new(alloc);
     let mut rest = bytes;
@@ -54,7 +54,7 @@ pub fn read_vector<'a, F: Field>(
     scope: Scope,
     bytes: &'a [u8],
 ) -> Result<(Items<F::Item>, &'a [u8]), Stop>
-    ensures { Gives (λ x. (x.0, x.1.now)) result (vector_at limit F.reading scope bytes.now) }
+    ensures { Gives (λ x. (x.0, x.1.now)) result (vector_at limit (F.reading field.now) scope bytes.now) }
 {
     let (count, rest) = read_count(limit, scope, bytes)?;
     many(field, alloc, scope, count, rest)
@@ -66,7 +66,7 @@ pub struct Index;
 impl Field for Index {
     type Item = u32;
 
-    ghost reading = { u32_at };
+    ghost reading = { λ _. u32_at };
 
     fn read<'a>(
         &self,
@@ -75,5 +75,26 @@ impl Field for Index {
         bytes: &'a [u8],
     ) -> Result<(u32, &'a [u8]), Stop> {
         read_u32(scope, bytes)
+    }
+}
+
+/// A vector of so many items at most, as an item itself.
+pub struct Vector<F> {
+    pub limit: u32,
+    pub field: F,
+}
+
+impl<F: Field> Field for Vector<F> {
+    type Item = Items<F::Item>;
+
+    ghost reading = { λ v. vector_at v.limit (F.reading v.field) };
+
+    fn read<'a>(
+        &self,
+        alloc: Global,
+        scope: Scope,
+        bytes: &'a [u8],
+    ) -> Result<(Items<F::Item>, &'a [u8]), Stop> {
+        read_vector(&self.field, self.limit, alloc, scope, bytes)
     }
 }
