@@ -98,7 +98,7 @@ fn signed(
                     None => Err(Stop::Fault(bad)),
                 };
             }
-            if 128 < limit {
+            if limit > 128 {
                 let (high, rest) = signed(bad, short, limit / 128, rest)?;
                 return Ok((128 * high + (digit - 128), rest));
             }

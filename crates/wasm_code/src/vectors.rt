@@ -61,6 +61,7 @@ pub fn read_vector<'a, F: Field>(
 }
 
 /// An index.
+#[derive(Drop)]
 pub struct Index;
 
 impl Field for Index {
@@ -79,6 +80,7 @@ impl Field for Index {
 }
 
 /// A vector of so many items at most, as an item itself.
+#[derive(Drop)]
 pub struct Vector<F> {
     pub limit: u32,
     pub field: F,

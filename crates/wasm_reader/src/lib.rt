@@ -1,13 +1,19 @@
-// A library with one function.
+//! Reads WebAssembly modules: [`read_module`] answers Ok exactly on the binary grammar (chapter 5 of the
+//! WebAssembly Core Specification 1.0, in the profile without floating point and with this host's limits), gives
+//! the one module that the bytes spell, and else tells the first fault and its place.
+//!
+//! Reading goes once from left to right, and takes no memory for a count that the bytes can't hold.
 #![tactic(auto)]
 
-ghost use Rattle.std.specs.Prelude.{◌≡◌};
-ghost use Rattle.wasm_reader.specs.Echo.{echo_of};
+mod bodies;
+mod module;
+mod names;
+mod parts;
+mod sections;
+mod types;
 
-// The `ensures` clause is the contract: what `echo` returns is `echo_of` of its argument, a definition
-// in `specs/Echo.antt`, which a caller's clause can cite too.
-pub fn echo(x: usize) -> usize
-    ensures { result ≡ echo_of x }
-{
-    x
-}
+pub use module::read_module;
+pub use wasm_code::{ReadFault, ReadKind};
+
+#[cfg(test)]
+mod tests;
