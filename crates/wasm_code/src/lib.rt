@@ -21,3 +21,6 @@ pub use instructions::read_value_type;
 pub use numbers::{read_count, read_s32, read_s64, read_u32};
 pub use scope::{Scope, fault_at, short_of};
 pub use vectors::{Field, Index, Vector, read_vector};
+
+#[cfg(test)]
+mod tests;
