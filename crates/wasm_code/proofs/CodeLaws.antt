@@ -1,5 +1,5 @@
 -- What follows for a call that reads an expression from its being read exactly.
-use Rattle.std.proofs.Common.{◌≡◌, ℕ, ◌+◌, ◌-◌, ◌≤◌, List, length, take, drop, Result, Ok, Err, refl, sym, ap, subst, ◌∙◌, arith, ◌⊎◌, inl, inr, length-take, length-drop}
+use Rattle.std.proofs.Common.{◌≡◌, ℕ, ◌+◌, ◌-◌, ◌≤◌, List, length, drop, Result, Ok, Err, refl, ap, subst, arith, inl, inr, length-take, length-drop}
 use Rattle.std.specs.Prelude.{IfOk, slice_range}
 use Rattle.std.specs.Global.{Vec}
 use Rattle.wasm_types.specs.declared.instructions.Instr.{Instr}
@@ -7,7 +7,7 @@ use Rattle.wasm_code.specs.declared.fault.ReadKind.TheVariants.{SectionSize}
 use Rattle.wasm_code.specs.declared.fault.ReadFault.{ReadFault}
 use Rattle.wasm_code.specs.declared.scope.Scope.{Scope}
 use Rattle.wasm_code.specs.Grammar.{IsInstr, IsExpression}
-use Rattle.wasm_code.specs.Reading.{◌>>=◌, Answers, no_memory}
+use Rattle.wasm_code.specs.Reading.{Answers}
 use Rattle.wasm_code.specs.Instructions.{expression_at, code_at}
 use Rattle.wasm_code.proofs.Steps.{bind_ok}
 use Rattle.wasm_code.proofs.ExactExpressions.{expression_exact, many_take, instr_takes}

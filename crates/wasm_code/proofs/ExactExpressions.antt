@@ -1,18 +1,18 @@
 -- Expressions are read exactly.
-use Rattle.std.proofs.Common.{◌≡◌, ℕ, zero, suc, ◌+◌, ◌-◌, ◌*◌, ◌/◌, ◌<◌, ◌≤◌, Bool, true, false, cond, ltb, List, [], ◌∷◌, length, Option, Some, None, Result, Ok, Err, MatchBool, refl, sym, ap, subst, ◌∙◌, arith, ◌⊎◌, inl, inr}
+use Rattle.std.proofs.Common.{◌≡◌, ℕ, zero, suc, ◌+◌, ◌/◌, ◌<◌, ◌≤◌, Bool, cond, ltb, List, [], ◌∷◌, length, Option, Some, None, Ok, refl, sym, ap, subst, ◌∙◌, arith, inl, inr}
 use Rattle.std.proofs.lemmas.Bool.{cases_Bool}
 use Rattle.wasm_types.specs.declared.types.ValueType.TheVariants as kinds
 use Rattle.wasm_types.specs.declared.values.Value.TheVariants as values
 use Rattle.wasm_types.specs.declared.instructions.Instr.{Instr}
 use Rattle.wasm_types.specs.declared.instructions.Instr.TheVariants.{Block, Loop, If, Br, BrIf, BrTable, Call, CallIndirect, LocalGet, LocalSet, LocalTee, GlobalGet, GlobalSet, Load, Store, MemorySize, MemoryGrow, Const}
-use Rattle.wasm_types.specs.Nested.{Role, role_of}
+use Rattle.wasm_types.specs.Nested.{role_of}
 use Rattle.wasm_code.specs.declared.fault.ReadKind.{ReadKind}
 use Rattle.wasm_code.specs.declared.fault.ReadFault.{ReadFault}
 use Rattle.wasm_code.specs.declared.scope.Scope.{Scope}
 use Rattle.wasm_code.specs.Opcodes.{opcode_of}
-use Rattle.wasm_code.specs.Grammar.{AreMany, IsUnsigned, IsSigned, last_signed, IsU32, IsS32, IsS64, IsVector, IsValueType, IsResult, AreTwo, AreOperands, IsInstr, IsExpression}
+use Rattle.wasm_code.specs.Grammar.{AreMany, IsUnsigned, IsSigned, IsU32, IsResult, AreTwo, AreOperands, IsInstr, IsExpression}
 use Rattle.wasm_code.specs.Decoding.{opcode_fault}
-use Rattle.wasm_code.specs.Reading.{Reading, ◌>>=◌, fault_at, short_of}
+use Rattle.wasm_code.specs.Reading.{Reading, ◌>>=◌, fault_at}
 use Rattle.wasm_code.specs.Instructions.{refusal, refused_or, opens_after, is_last, instr_of, instr_at, instrs_at, expression_at}
 use Rattle.wasm_code.specs.Exact.{IsExact}
 use Rattle.wasm_code.proofs.Steps.{bind_ok, pair_is, ap2_pair, same_ok}

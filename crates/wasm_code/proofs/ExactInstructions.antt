@@ -1,16 +1,10 @@
 -- Instructions are read exactly: a line for each opcode in both directions.
-use Rattle.std.proofs.Common.{◌≡◌, ℕ, ◌+◌, ◌-◌, ◌<◌, ◌≤◌, Bool, true, false, cond, eqb, ltb, List, [], ◌∷◌, length, Option, Some, None, Result, Ok, Err, refl, sym, ap, subst, ◌∙◌, arith, ◌⊎◌, inl, inr}
-use Rattle.wasm_types.specs.declared.instructions.Compare.{Compare}
+use Rattle.std.proofs.Common.{◌≡◌, ℕ, ltb, List, [], ◌∷◌, Option, Some, None, Ok, Err, refl, sym, ap, subst}
 use Rattle.wasm_types.specs.declared.instructions.Compare.TheVariants as compares
-use Rattle.wasm_types.specs.declared.instructions.Unary.{Unary}
 use Rattle.wasm_types.specs.declared.instructions.Unary.TheVariants as unaries
-use Rattle.wasm_types.specs.declared.instructions.Binary.{Binary}
 use Rattle.wasm_types.specs.declared.instructions.Binary.TheVariants as binaries
-use Rattle.wasm_types.specs.declared.instructions.LoadKind.{LoadKind}
 use Rattle.wasm_types.specs.declared.instructions.LoadKind.TheVariants as loads
-use Rattle.wasm_types.specs.declared.instructions.StoreKind.{StoreKind}
 use Rattle.wasm_types.specs.declared.instructions.StoreKind.TheVariants as stores
-use Rattle.wasm_types.specs.declared.instructions.Convert.{Convert}
 use Rattle.wasm_types.specs.declared.instructions.Convert.TheVariants as converts
 use Rattle.wasm_types.specs.declared.instructions.Test.TheVariants as tests
 use Rattle.wasm_types.specs.declared.values.Value.TheVariants as values
@@ -22,13 +16,13 @@ use Rattle.wasm_types.specs.declared.instructions.Instr.TheVariants as instrs
 use Rattle.wasm_code.specs.declared.fault.ReadKind.TheVariants.{BadForm}
 use Rattle.wasm_code.specs.declared.fault.ReadFault.{ReadFault}
 use Rattle.wasm_code.specs.declared.scope.Scope.{Scope}
-use Rattle.wasm_code.specs.Opcodes.{load_number, store_number, opcode_of}
-use Rattle.wasm_code.specs.Grammar.{IsU32, IsS32, IsS64, IsVector, IsValueType, IsResult, AreTwo, AreOperands}
+use Rattle.wasm_code.specs.Opcodes.{opcode_of}
+use Rattle.wasm_code.specs.Grammar.{IsU32, IsS32, IsS64, IsValueType, IsResult, AreTwo, AreOperands}
 use Rattle.wasm_code.specs.Decoding.{load_at, store_at, numeric_at}
-use Rattle.wasm_code.specs.Reading.{Reading, ◌>>=◌, fault_at, short_of, ok_or, u32_at, s32_at, s64_at, vector_at}
+use Rattle.wasm_code.specs.Reading.{Reading, ◌>>=◌, fault_at, ok_or, u32_at, s32_at, s64_at, vector_at}
 use Rattle.wasm_code.specs.Instructions.{type_fault, value_type_at, result_at, zero_at, two_at, control_at, branch_at, variable_at, memory_at, number_at, instr_of}
 use Rattle.wasm_code.specs.Exact.{IsExact}
-use Rattle.wasm_code.proofs.Steps.{bind_ok, guard_ok, needs_ok, pair_is, ap2_pair, same_ok, choice, tested}
+use Rattle.wasm_code.proofs.Steps.{bind_ok, pair_is, ap2_pair, choice, tested}
 use Rattle.wasm_code.proofs.ExactNumbers.{ok_or_is, u32_exact, s32_exact, s64_exact, vector_exact}
 use Rattle.wasm_code.proofs.Rows.{load_there, store_there, numeric_sound}
 

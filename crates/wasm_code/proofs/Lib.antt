@@ -6,3 +6,6 @@ pub mod ExactInstructions
 pub mod Nesting
 pub mod ExactExpressions
 pub mod CodeLaws
+pub mod FirstSequences
+pub mod FirstNumbers
+pub mod FirstInstructions

@@ -14,7 +14,7 @@ use Rattle.wasm_types.specs.declared.values.Value.TheVariants as values
 use Rattle.wasm_types.specs.declared.instructions.Instr.{Instr}
 use Rattle.wasm_types.specs.declared.instructions.Instr.TheVariants.{Unreachable, Nop, Block, Loop, If, Else, End, Br, BrIf, BrTable, Return, Call, CallIndirect, Drop, Select, LocalGet, LocalSet, LocalTee, GlobalGet, GlobalSet, Load, Store, MemorySize, MemoryGrow, Const, I32Test, I32Compare, I32Unary, I32Binary, I64Test, I64Compare, I64Unary, I64Binary}
 use Rattle.wasm_types.specs.declared.instructions.Instr.TheVariants as instrs
-use Rattle.wasm_types.specs.Nested.{Role, Opens, Parts, Closes, Plain, role_of, Body, Done, Goes, InBlock, InLoop, InIf, InIfElse, flat_onto, depth_of, Nests, NestsWithin}
+use Rattle.wasm_types.specs.Nested.{Role, Opens, Parts, Closes, Plain, role_of, Body, Done, Goes, InBlock, InLoop, InIf, InIfElse, flat_onto, depth_of, NestsWithin}
 use Rattle.wasm_code.specs.declared.fault.ReadKind.{ReadKind}
 use Rattle.wasm_code.specs.declared.fault.ReadKind.TheVariants.{BadForm, NestedTooDeep}
 use Rattle.wasm_code.specs.Opcodes.{opcode_of}

@@ -1,5 +1,5 @@
 -- From an opcode back to what it stands for.
-use Rattle.std.specs.Prelude.{ℕ, ◌+◌, ◌-◌, ◌==◌, nat_lt, ◌||◌, ◌&&◌, nat_le, Bool, if◌then◌else◌, Option, Some, None}
+use Rattle.std.specs.Prelude.{ℕ, ◌-◌, ◌==◌, nat_lt, ◌||◌, ◌&&◌, nat_le, Bool, if◌then◌else◌, Option, Some, None}
 use Rattle.std.specs.Option.{option_map}
 use Rattle.wasm_types.specs.declared.instructions.Compare.{Compare}
 use Rattle.wasm_types.specs.declared.instructions.Compare.TheVariants as compares

@@ -1,5 +1,5 @@
 -- The binary grammar (chapter 5): a relation between bytes, the value that the first of them spell, and the bytes after it.
-use Rattle.std.specs.Prelude.{◌≡◌, ℕ, ◌+◌, ◌-◌, ◌*◌, ◌/◌, ◌^◌, ◌<◌, ◌≤◌, nat_lt, nat_le, if◌then◌else◌, MatchBool, Option, Some, None, List, [], ◌∷◌, ◌++◌, length}
+use Rattle.std.specs.Prelude.{◌≡◌, ℕ, ◌+◌, ◌-◌, ◌*◌, ◌/◌, ◌<◌, ◌≤◌, nat_lt, nat_le, if◌then◌else◌, MatchBool, Option, Some, None, List, [], ◌∷◌, length}
 use Rattle.wasm_types.specs.declared.types.ValueType.{ValueType}
 use Rattle.wasm_types.specs.declared.types.ValueType.TheVariants as kinds
 use Rattle.wasm_types.specs.declared.values.Value.TheVariants as values

@@ -4,3 +4,4 @@ pub mod Decoding
 pub mod Reading
 pub mod Instructions
 pub mod Exact
+pub mod FirstFault

@@ -1,5 +1,5 @@
 -- The opcodes of the profile (section 5.4), each instruction's by its own line.
-use Rattle.std.specs.Prelude.{ℕ, ◌+◌, ◌==◌, if◌then◌else◌, Option, Some, None}
+use Rattle.std.specs.Prelude.{ℕ, ◌+◌}
 use Rattle.wasm_types.specs.declared.instructions.Compare.{Compare}
 use Rattle.wasm_types.specs.declared.instructions.Compare.TheVariants as compares
 use Rattle.wasm_types.specs.declared.instructions.Unary.{Unary}

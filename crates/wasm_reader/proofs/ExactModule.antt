@@ -1,6 +1,6 @@
 -- A module is read exactly: the sections from each number on, from the last one back to the first.
-use Rattle.std.proofs.Common.{◌≡◌, ℕ, suc, ◌+◌, ◌<◌, ◌≤◌, Bool, true, false, ◌&&◌, cond, eqb, ltb, List, [], ◌∷◌, length, Option, Some, None, Result, Ok, Err, refl, sym, ap, subst, ◌∙◌, arith, ◌⊎◌, inl, inr}
-use Rattle.std.proofs.lemmas.Bool.{cases_Bool, ltb-false, le-ltb, eqb-true, eq-eqb, and_parts}
+use Rattle.std.proofs.Common.{◌≡◌, ℕ, true, ◌&&◌, eqb, ltb, List, [], ◌∷◌, length, Option, None, Result, Ok, refl, sym, ap, subst, ◌∙◌, arith}
+use Rattle.std.proofs.lemmas.Bool.{ltb-false, le-ltb, eqb-true, eq-eqb, and_parts}
 use Rattle.wasm_types.specs.declared.types.FuncType.{FuncType}
 use Rattle.wasm_types.specs.declared.types.Limits.{Limits}
 use Rattle.wasm_types.specs.declared.modules.Import.{Import}
@@ -10,15 +10,15 @@ use Rattle.wasm_types.specs.declared.modules.Element.{Element}
 use Rattle.wasm_types.specs.declared.modules.Code.{Code}
 use Rattle.wasm_types.specs.declared.modules.Segment.{Segment}
 use Rattle.wasm_types.specs.declared.modules.Module.{Module}
-use Rattle.wasm_code.specs.declared.fault.ReadKind.TheVariants.{Truncated, BadMagic, BadVersion, SectionOrder, CountMismatch, TooLarge}
+use Rattle.wasm_code.specs.declared.fault.ReadKind.TheVariants.{Truncated, BadMagic, BadVersion, CountMismatch, TooLarge}
 use Rattle.wasm_code.specs.declared.fault.ReadFault.{ReadFault}
 use Rattle.wasm_code.specs.declared.scope.Scope.{Scope}
 use Rattle.wasm_code.specs.Grammar.{IsU32, IsVector}
-use Rattle.wasm_code.specs.Reading.{Reading, ◌>>=◌, fault_at, short_of, u32_at, vector_at}
-use Rattle.wasm_code.proofs.Steps.{bind_ok, needs_ok, guard_ok, ok_is, choice}
+use Rattle.wasm_code.specs.Reading.{◌>>=◌, fault_at, u32_at, vector_at}
+use Rattle.wasm_code.proofs.Steps.{bind_ok, needs_ok, guard_ok, ok_is}
 use Rattle.wasm_code.proofs.ExactNumbers.{u32_exact, vector_exact}
 use Rattle.wasm_reader.specs.Grammar.{IsList, IsFuncType, IsImport, IsTable, IsMemory, IsGlobal, IsExport, IsStart, IsElement, AreCode, IsSegment, Ends, AreSections, IsModule}
-use Rattle.wasm_reader.specs.Reading.{func_type_at, import_at, table_at, memory_at, global_at, export_at, start_at, element_at, code_section_at, segment_at, customs_at, section_at, magic_at, version_at, ended_at, end_at, sections_at, whole_at, module_at}
+use Rattle.wasm_reader.specs.Reading.{func_type_at, import_at, table_at, memory_at, global_at, export_at, start_at, element_at, code_section_at, segment_at, customs_at, magic_at, version_at, ended_at, end_at, sections_at, whole_at, module_at}
 use Rattle.wasm_reader.proofs.ExactParts.{func_type_exact, import_exact, table_exact, memory_exact, global_exact, export_exact, start_exact, element_exact, segment_exact}
 use Rattle.wasm_reader.proofs.ExactSections.{code_exact, skipped, skips, skips_again, IsAbove, IsTail, Chain, chain_at, chain_tail}
 

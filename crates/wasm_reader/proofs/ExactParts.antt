@@ -1,5 +1,5 @@
 -- The parts of a module are read exactly.
-use Rattle.std.proofs.Common.{◌≡◌, ℕ, zero, suc, ◌+◌, ◌-◌, ◌<◌, ◌≤◌, Bool, true, false, cond, eqb, ltb, leb, List, [], ◌∷◌, ◌++◌, length, take, drop, Option, Some, None, Result, Ok, Err, refl, sym, ap, subst, ◌∙◌, arith, ◌⊎◌, inl, inr}
+use Rattle.std.proofs.Common.{◌≡◌, ℕ, ◌≤◌, Bool, true, false, cond, eqb, leb, List, [], ◌∷◌, ◌++◌, length, take, drop, Option, Some, None, Ok, Err, refl, sym, ap, subst, ◌∙◌, arith, inl, inr}
 use Rattle.std.specs.Prelude.{IsUtf8, IfSome}
 use Rattle.std.specs.Str.{is_utf8}
 use Rattle.std.specs.Option.{option_to_list}
@@ -22,15 +22,15 @@ use Rattle.wasm_types.specs.declared.modules.Segment.{Segment}
 use Rattle.wasm_code.specs.declared.fault.ReadKind.TheVariants.{BadForm, BadName}
 use Rattle.wasm_code.specs.declared.fault.ReadFault.{ReadFault}
 use Rattle.wasm_code.specs.declared.scope.Scope.{Scope}
-use Rattle.wasm_code.specs.Grammar.{Behind, AreMany, IsU32, IsVector, IsValueType, IsExpression, AreTwo}
+use Rattle.wasm_code.specs.Grammar.{IsU32, IsVector, IsValueType}
 use Rattle.wasm_code.specs.Reading.{Reading, ◌>>=◌, fault_at, short_of, u32_at, count_at, vector_at}
 use Rattle.wasm_code.specs.Instructions.{value_type_at, expression_at}
 use Rattle.wasm_code.specs.Exact.{IsExact}
-use Rattle.wasm_code.proofs.Steps.{bind_ok, needs_ok, guard_ok, pair_is, ap2_pair, same_ok, choice, tested, ok_is}
+use Rattle.wasm_code.proofs.Steps.{bind_ok, needs_ok, pair_is, ap2_pair, same_ok, choice, ok_is}
 use Rattle.wasm_code.proofs.ExactNumbers.{u32_exact, count_exact, IsCount, vector_exact}
 use Rattle.wasm_code.proofs.ExactInstructions.{value_type_exact}
 use Rattle.wasm_code.proofs.ExactExpressions.{expression_exact}
-use Rattle.wasm_reader.specs.Grammar.{IsList, AreBytes, IsName, IsFuncType, IsSize, IsLimits, IsMemory, IsTable, flag_byte, IsGlobalType, IsImportKind, IsImport, IsGlobal, export_byte, IsExport, IsElement, IsSegment, IsStart}
+use Rattle.wasm_reader.specs.Grammar.{AreBytes, IsName, IsFuncType, IsSize, IsLimits, IsMemory, IsTable, flag_byte, IsGlobalType, IsImportKind, IsImport, IsGlobal, export_byte, IsExport, IsElement, IsSegment, IsStart}
 use Rattle.wasm_reader.specs.Reading.{bytes_at, name_at, byte_at, results_at, func_type_at, flag_at, limits_at, memory_at, table_at, global_type_at, import_kind_at, import_at, export_kind_at, export_at, global_at, element_at, segment_at, start_at}
 
 never : {A P : Type 0} (f : ReadFault) (x : A) (rest : List ℕ) → (let bad : Reading A = Err f in bad) ≡ Ok (x, rest) → P

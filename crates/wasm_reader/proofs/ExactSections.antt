@@ -1,8 +1,7 @@
 -- Parts with a stated size, code and sections are read exactly.
-use Rattle.std.proofs.Common.{◌≡◌, ℕ, zero, suc, ◌+◌, ◌-◌, ◌<◌, ◌≤◌, Bool, true, false, cond, eqb, ltb, leb, List, [], ◌∷◌, ◌++◌, length, take, drop, Option, Some, None, Result, Ok, Err, refl, sym, ap, subst, ◌∙◌, arith, ◌⊎◌, inl, inr, replicate, append_assoc}
-use Rattle.std.specs.Prelude.{IsUtf8}
+use Rattle.std.proofs.Common.{◌≡◌, ℕ, zero, suc, ◌+◌, ◌-◌, ◌<◌, ◌≤◌, Bool, true, false, cond, eqb, ltb, leb, List, [], ◌∷◌, ◌++◌, length, take, drop, Option, Some, None, Result, Ok, Err, refl, sym, ap, subst, ◌∙◌, arith, inl, inr, replicate, append_assoc}
 use Rattle.std.specs.Option.{option_map_or}
-use Rattle.std.proofs.lemmas.Bool.{cases_Bool, leb-true, le-leb, ltb-false, le-ltb, eqb-true, eqb-false, ne_eqb, eq-eqb}
+use Rattle.std.proofs.lemmas.Bool.{cases_Bool, leb-true, ltb-false, le-ltb, eqb-true, eqb-false, ne_eqb, eq-eqb}
 use Rattle.std.proofs.lemmas.List.{take_at, drop_at, length-append, append-nil, length-replicate}
 use Rattle.wasm_types.specs.declared.types.ValueType.{ValueType}
 use Rattle.wasm_types.specs.declared.types.FuncType.{FuncType}
@@ -10,15 +9,15 @@ use Rattle.wasm_types.specs.declared.modules.Code.{Code}
 use Rattle.wasm_code.specs.declared.fault.ReadKind.TheVariants.{SectionSize, TooLarge}
 use Rattle.wasm_code.specs.declared.fault.ReadFault.{ReadFault}
 use Rattle.wasm_code.specs.declared.scope.Scope.{Scope}
-use Rattle.wasm_code.specs.Grammar.{Behind, AreMany, IsU32, IsVector, IsValueType, IsExpression}
+use Rattle.wasm_code.specs.Grammar.{Behind, AreMany, IsU32}
 use Rattle.wasm_code.specs.Reading.{Reading, ◌>>=◌, fault_at, short_of, u32_at, count_at}
 use Rattle.wasm_code.specs.Instructions.{value_type_at, expression_at}
 use Rattle.wasm_code.specs.Exact.{IsExact}
-use Rattle.wasm_code.proofs.Steps.{bind_ok, needs_ok, guard_ok, pair_is, ap2_pair, same_ok, choice, tested, ok_is}
-use Rattle.wasm_code.proofs.ExactNumbers.{u32_exact, count_exact, IsCount}
+use Rattle.wasm_code.proofs.Steps.{bind_ok, needs_ok, pair_is, ap2_pair, same_ok, ok_is}
+use Rattle.wasm_code.proofs.ExactNumbers.{u32_exact, count_exact}
 use Rattle.wasm_code.proofs.ExactInstructions.{value_type_exact}
 use Rattle.wasm_code.proofs.ExactExpressions.{expression_exact, u32_takes}
-use Rattle.wasm_reader.specs.Grammar.{IsList, AreBytes, IsName, IsSized, Group, IsGroup, locals_of, AreLocals, params_of, IsBody, AreBodies, AreCode, IsCustom, AreCustoms, IsOptional, Section}
+use Rattle.wasm_reader.specs.Grammar.{AreBytes, IsName, IsSized, Group, IsGroup, locals_of, params_of, IsBody, AreBodies, AreCode, IsCustom, AreCustoms, IsOptional, Section}
 use Rattle.wasm_reader.specs.Reading.{name_at, Inside, open_at, close_at, sized_at, is_bad_leb, crowded, crowded_at, groups_at, locals_from, locals_at, body_at, bodies_at, code_section_at, custom_at, next_custom_at, customs_from, customs_at, optional_at, section_at}
 use Rattle.wasm_reader.proofs.ExactParts.{cut_is, cut_again, name_exact}
 use Rattle.wasm_reader.proofs.Loops.{customs_go, customs_stop}

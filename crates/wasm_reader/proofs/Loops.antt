@@ -1,5 +1,5 @@
 -- What the loops of the reader keep.
-use Rattle.std.proofs.Common.{◌≡◌, ℕ, zero, suc, ◌+◌, ◌-◌, ◌<◌, ◌≤◌, List, [], ◌∷◌, ◌++◌, length, Option, Some, None, Result, Ok, Err, refl, sym, ap, ◌∙◌, arith, replicate}
+use Rattle.std.proofs.Common.{◌≡◌, ℕ, suc, ◌+◌, ◌-◌, List, [], ◌∷◌, ◌++◌, length, Some, None, Result, Ok, Err, refl, sym, ◌∙◌, replicate}
 use Rattle.wasm_types.specs.declared.types.ValueType.{ValueType}
 use Rattle.wasm_types.specs.declared.types.FuncType.{FuncType}
 use Rattle.wasm_types.specs.declared.modules.Code.{Code}
@@ -7,11 +7,11 @@ use Rattle.wasm_code.specs.declared.fault.ReadFault.{ReadFault}
 use Rattle.wasm_code.specs.declared.fault.Stop.{Stop}
 use Rattle.wasm_code.specs.declared.fault.Stop.TheVariants as stops
 use Rattle.wasm_code.specs.declared.scope.Scope.{Scope}
-use Rattle.wasm_code.specs.Reading.{Reading, ◌>>=◌, Fails, count_at}
+use Rattle.wasm_code.specs.Reading.{Reading, Fails, count_at}
 use Rattle.wasm_code.specs.Instructions.{value_type_at}
 use Rattle.wasm_code.proofs.Loop.{with_front, regroup}
 use Rattle.wasm_reader.specs.Grammar.{params_of}
-use Rattle.wasm_reader.specs.Reading.{next_custom_at, customs_from, customs_at, locals_from, sized_at, body_at, bodies_at}
+use Rattle.wasm_reader.specs.Reading.{next_custom_at, customs_from, locals_from, sized_at, body_at, bodies_at}
 
 -- ---- custom sections
 

@@ -1,5 +1,5 @@
 -- What follows for the call that reads a module from its being read exactly.
-use Rattle.std.proofs.Common.{◌≡◌, ℕ, List, Result, Ok, Err, refl, sym, ap, subst, ◌∙◌, ◌⊎◌, inl, inr}
+use Rattle.std.proofs.Common.{ℕ, List, Result, Ok, Err, subst}
 use Rattle.std.specs.Prelude.{IfOk}
 use Rattle.wasm_types.specs.declared.modules.Module.{Module}
 use Rattle.wasm_code.specs.declared.fault.ReadFault.{ReadFault}

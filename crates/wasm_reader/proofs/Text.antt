@@ -1,5 +1,5 @@
 -- What a test of bytes for UTF-8 has answered.
-use Rattle.std.proofs.Common.{◌≡◌, Bool, true, false, ℕ, List, Result, Ok, Err, MatchResult, is_ok, sym, refl, ◌⊎◌, inl, inr}
+use Rattle.std.proofs.Common.{◌≡◌, false, ℕ, List, Result, Ok, Err, MatchResult, is_ok, sym, inl, inr}
 use Rattle.std.specs.Prelude.{IsUtf8}
 use Rattle.std.specs.Str.{is_utf8}
 use Rattle.std.proofs.lemmas.Bool.{cases_Bool}

@@ -1,7 +1,6 @@
 -- The binary grammar of modules (sections 5.2.4, 5.3 and 5.5): a relation between bytes, what the first of them spell, and
 -- the bytes after it.
 use Rattle.std.specs.Prelude.{◌≡◌, ◌⊎◌, ℕ, zero, suc, ◌+◌, ◌≤◌, Bool, true, false, Option, Some, None, IfSome, List, [], ◌∷◌, ◌++◌, length, replicate, slice_get, IsUtf8}
-use Rattle.std.specs.List.{flat_map}
 use Rattle.std.specs.Option.{option_to_list, option_map_or}
 use Rattle.wasm_types.specs.declared.types.ValueType.{ValueType}
 use Rattle.wasm_types.specs.declared.types.FuncType.{FuncType}

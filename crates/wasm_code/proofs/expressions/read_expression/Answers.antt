@@ -1,9 +1,8 @@
-use Rattle.std.proofs.Common.{◌≡◌, ℕ, suc, true, false, ◌+◌, ◌-◌, ◌++◌, ◌∷◌, [], length, refl, sym, ap, ◌∙◌, arith}
+use Rattle.std.proofs.Common.{◌≡◌, suc, true, false, ◌+◌, ◌-◌, [], length, sym, ◌∙◌, arith}
 use Rattle.std.proofs.lemmas.Result.{err_from_is_err_and}
 use Rattle.wasm_types.specs.Nested.{role_of}
-use Rattle.wasm_code.specs.Reading.{Reading, ◌>>=◌}
-use Rattle.wasm_code.specs.Instructions.{instrs_at, expression_at, is_last, opens_after}
-use Rattle.wasm_code.proofs.Loop.{with_front, with_none, turn, last_turn, no_turn, no_more}
+use Rattle.wasm_code.specs.Instructions.{instrs_at, expression_at, is_last}
+use Rattle.wasm_code.proofs.Loop.{with_none, turn, last_turn, no_turn, no_more}
 use Rattle.wasm_code.proofs.expressions.read_expression.Goals as goal
 
 pub loop-init : goal.loop-init
