@@ -1,17 +1,19 @@
 //! Modules (section 5.5.15).
 
-ghost use Rattle.std.specs.Prelude.{◌≡◌, IfOk, Ok};
+ghost use Rattle.std.specs.Prelude.{◌≡◌, IfOk, Ok, []};
 ghost use Rattle.wasm_types.specs.declared.modules.Module.{Module};
-ghost use Rattle.wasm_code.specs.Reading.{Gives, Answers};
+ghost use Rattle.wasm_code.specs.Reading.{Gives, Answers, vector_at};
 ghost use Rattle.wasm_reader.specs.Grammar.{IsModule};
-ghost use Rattle.wasm_reader.specs.Reading.{magic_at, version_at, ended_at, end_at, sections_at, whole_at, module_at};
+ghost use Rattle.wasm_reader.specs.Reading.{magic_at, version_at, ended_at, end_at, section_at, sections_at, whole_at, module_at};
 
 use crate::bodies::Bodies;
 use crate::parts::{Elements, Exports, Globals, Imports, Segments, Start};
 use crate::sections::{read_section, skip_customs};
 use crate::types::{FuncTypes, Memories, Tables};
 use std::alloc::Global;
-use wasm_code::{Index, ReadFault, ReadKind, Scope, Stop, Vector, fault_at, short_of, told_of};
+use wasm_code::{
+    Field, Index, ReadFault, ReadKind, Scope, Stop, Vector, fault_at, short_of, told_of,
+};
 use wasm_types::{Items, Module};
 
 // What follows the four bytes of the magic.
@@ -70,15 +72,19 @@ fn read_end(scope: Scope, whole: Module, bytes: &[u8]) -> Result<Module, Stop>
     ended(scope, whole, rest)
 }
 
-// A vector of any count.
-fn list<F>(field: F) -> Vector<F>
-    ensures limit { result.limit ≡ 4294967295 }
-    ensures field { result.field ≡ field }
+// A section with a vector of so many items at most; none stand where it is left out.
+fn read_list<'a, F: Field + Drop>(
+    id: u8,
+    limit: u32,
+    field: F,
+    alloc: Global,
+    scope: Scope,
+    bytes: &'a [u8],
+) -> Result<(Items<F::Item>, &'a [u8]), Stop>
+    ensures { Gives (λ x. (x.0, x.1.now)) result (section_at id [] (vector_at limit (F.reading field)) scope bytes.now) }
 {
-    Vector {
-        limit: 4_294_967_295,
-        field,
-    }
+    let none = Items::of(Vec::new(alloc));
+    read_section(id, none, &Vector { limit, field }, alloc, scope, bytes)
 }
 
 // The sections of a module, and its end.
@@ -86,93 +92,21 @@ fn list<F>(field: F) -> Vector<F>
 fn read_sections(alloc: Global, scope: Scope, bytes: &[u8]) -> Result<Module, Stop>
     ensures { Gives (λ m. m) result (sections_at scope bytes.now) }
 {
-    let (types, rest) = read_section(
-        1,
-        Items::of(Vec::new(alloc)),
-        &Vector {
-            limit: 65536,
-            field: FuncTypes,
-        },
-        alloc,
-        scope,
-        bytes,
-    )?;
-    let (imports, rest) = read_section(
-        2,
-        Items::of(Vec::new(alloc)),
-        &list(Imports),
-        alloc,
-        scope,
-        rest,
-    )?;
-    let (functions, rest) = read_section(
-        3,
-        Items::of(Vec::new(alloc)),
-        &Vector {
-            limit: 65536,
-            field: Index,
-        },
-        alloc,
-        scope,
-        rest,
-    )?;
-    let (tables, rest) = read_section(
-        4,
-        Items::of(Vec::new(alloc)),
-        &list(Tables),
-        alloc,
-        scope,
-        rest,
-    )?;
-    let (memories, rest) = read_section(
-        5,
-        Items::of(Vec::new(alloc)),
-        &list(Memories),
-        alloc,
-        scope,
-        rest,
-    )?;
-    let (globals, rest) = read_section(
-        6,
-        Items::of(Vec::new(alloc)),
-        &Vector {
-            limit: 4096,
-            field: Globals,
-        },
-        alloc,
-        scope,
-        rest,
-    )?;
-    let (exports, rest) = read_section(
-        7,
-        Items::of(Vec::new(alloc)),
-        &list(Exports),
-        alloc,
-        scope,
-        rest,
-    )?;
+    let (types, rest) = read_list(1, 65536, FuncTypes, alloc, scope, bytes)?;
+    let (imports, rest) = read_list(2, u32::MAX, Imports, alloc, scope, rest)?;
+    let (functions, rest) = read_list(3, 65536, Index, alloc, scope, rest)?;
+    let (tables, rest) = read_list(4, u32::MAX, Tables, alloc, scope, rest)?;
+    let (memories, rest) = read_list(5, u32::MAX, Memories, alloc, scope, rest)?;
+    let (globals, rest) = read_list(6, 4096, Globals, alloc, scope, rest)?;
+    let (exports, rest) = read_list(7, u32::MAX, Exports, alloc, scope, rest)?;
     let (start, rest) = read_section(8, None, &Start, alloc, scope, rest)?;
-    let (elements, rest) = read_section(
-        9,
-        Items::of(Vec::new(alloc)),
-        &list(Elements),
-        alloc,
-        scope,
-        rest,
-    )?;
+    let (elements, rest) = read_list(9, u32::MAX, Elements, alloc, scope, rest)?;
     let bodies = Bodies {
         types: types.items(),
         functions: functions.items(),
     };
     let (code, rest) = read_section(10, Items::of(Vec::new(alloc)), &bodies, alloc, scope, rest)?;
-    let (segments, rest) = read_section(
-        11,
-        Items::of(Vec::new(alloc)),
-        &list(Segments),
-        alloc,
-        scope,
-        rest,
-    )?;
+    let (segments, rest) = read_list(11, u32::MAX, Segments, alloc, scope, rest)?;
     let whole = Module {
         types,
         imports,
