@@ -1,0 +1,11 @@
+pub mod Steps
+pub mod Loop
+pub mod ExactNumbers
+pub mod Rows
+pub mod ExactInstructions
+pub mod Nesting
+pub mod ExactExpressions
+pub mod CodeLaws
+pub mod FirstSequences
+pub mod FirstNumbers
+pub mod FirstInstructions

@@ -1,0 +1,5 @@
+use Rattle.wasm_code.proofs.FirstInstructions.{expression_tells}
+use Rattle.wasm_code.proofs.laws.expressions_tell_first.Goals as goal
+
+pub returns : goal.returns
+returns c = expression_tells

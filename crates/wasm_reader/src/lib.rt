@@ -1,0 +1,19 @@
+//! Reads WebAssembly modules: [`read_module`] answers Ok exactly on the binary grammar (chapter 5 of the
+//! WebAssembly Core Specification 1.0, in the profile without floating point and with this host's limits), gives
+//! the one module that the bytes spell, and else tells the first fault and its place.
+//!
+//! Reading goes once from left to right, and takes no memory for a count that the bytes can't hold.
+#![tactic(auto)]
+
+mod bodies;
+mod module;
+mod names;
+mod parts;
+mod sections;
+mod types;
+
+pub use module::read_module;
+pub use wasm_code::{ReadFault, ReadKind};
+
+#[cfg(test)]
+mod tests;

@@ -1,0 +1,20 @@
+use super::*;
+use std::test::Fail;
+
+#[test]
+fn items(rt: HostRuntime) -> Result<(), Fail> {
+    let labels = Items::of([1u32, 2].to_vec(rt.alloc())?);
+    assert_eq!(rt; labels.items(), [1, 2].as_slice());
+    let table = Instr::BrTable { labels, other: 3 };
+    assert!(rt; table == table.clone()?);
+    assert!(rt; table != Instr::Br(3));
+    let other = Items::of([1u32, 3].to_vec(rt.alloc())?);
+    assert!(rt;
+        table
+            != Instr::BrTable {
+                labels: other,
+                other: 3
+            }
+    );
+    Ok(())
+}
