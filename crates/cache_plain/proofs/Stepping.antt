@@ -1,13 +1,12 @@
 -- One more entry of a legal history.
-use Rattle.std.specs.Prelude.{◌≡◌, ℕ, ◌+◌, ◌-◌, ◌<◌, ◌≤◌, Bool, true, false, not, max, List, [], ◌∷◌, ◌++◌, length, refl, IsTrue}
-use Rattle.std.proofs.Common.{arith, ap, sym, ◌∙◌, subst, length-append}
-use Rattle.std.proofs.lemmas.List.{reverse-append}
+use Rattle.std.specs.Prelude.{◌≡◌, ℕ, ◌+◌, ◌-◌, ◌<◌, ◌≤◌, true, false, not, List, [], ◌∷◌, ◌++◌, length, refl}
+use Rattle.std.proofs.Common.{arith, ap, sym, subst, length-append}
 use Rattle.cache_types.specs.declared.calls.CacheCall.{CacheCall}
 use Rattle.cache_types.specs.declared.calls.CacheCall.TheVariants.{Begin, End}
 use Rattle.cache_types.specs.declared.entries.Entry.{Entry}
-use Rattle.cache_types.specs.Entries.{newest_first, is_live, is_begin, is_end, is_not_yet, next_number}
+use Rattle.cache_types.specs.Entries.{newest_first, is_begin, is_end, is_not_yet}
 use Rattle.cache_types.specs.Legal.{IsLegalPast, IsLegal, IsNext, IsGuest}
-use Rattle.cache_types.specs.Step.{IsCaller, MayCall, guest_of, entry_after, reply_after, live_guests}
+use Rattle.cache_types.specs.Step.{IsCaller, entry_after, reply_after, live_guests}
 use Rattle.cache_plain.specs.Kept.{IsKept, HasRoom}
 use Rattle.cache_plain.proofs.Walks.{reverse-push}
 use Rattle.cache_plain.proofs.Living.{live-after-begin, live-after-end, live-after-other}

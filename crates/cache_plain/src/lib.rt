@@ -1,18 +1,29 @@
 //! The plain cache: a list of entries, and every answer found by walking it.
-#![tactic(auto, using(crate::proofs::Walks::walks))]
+//!
+//! `PlainCache` is the slow program whose contract is the definitions of `cache_types`: it is a
+//! `OneCache` over its list, and faster caches are compared with it.
+#![tactic(auto)]
 
 mod answers;
 mod asked;
+#[tactic(auto, using(crate::proofs::Walks::walks))]
 mod bodies;
 mod findings;
+#[tactic(auto, using(crate::proofs::Walks::walks))]
 mod found;
+#[tactic(auto, using(crate::proofs::Walks::walks))]
 mod insertions;
+#[tactic(auto, using(crate::proofs::Walks::walks))]
 mod look;
 mod parts;
+#[tactic(auto, using(crate::proofs::Walks::walks))]
 mod plain;
+#[tactic(auto, using(crate::proofs::Walks::walks))]
 mod renewals;
 mod slots;
+#[tactic(auto, using(crate::proofs::Walks::walks))]
 mod steps;
+#[tactic(auto, using(crate::proofs::Walks::walks))]
 mod transactions;
 
 pub use plain::PlainCache;

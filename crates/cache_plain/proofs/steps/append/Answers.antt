@@ -1,6 +1,4 @@
-use Rattle.std.proofs.Common.{arith, sym, subst, ◌∙◌, length, vec_len, vec_capacity, rules, ◌≡◌}
-use Rattle.cache_types.specs.declared.entries.Entry.{Entry}
-use Rattle.cache_plain.specs.Kept.{IsKept}
+use Rattle.std.proofs.Common.{sym, ◌∙◌, vec_capacity, rules}
 use Rattle.cache_plain.proofs.Stepping.{room-for-entry, one-live, kept-begin, kept-end, kept-other}
 use Rattle.cache_plain.proofs.steps.append.Goals as goal
 
