@@ -11,7 +11,8 @@ use Rattle.edge_play.specs.Schedule.{Seat, Turn, World, seat_at, seat_with, no_s
 use Rattle.edge_play.specs.Ready.{IsReady, AllOver}
 use Rattle.edge_play.proofs.Results.{none-from}
 use Rattle.edge_play.proofs.Scripts.{script_in, stopped-script}
-use Rattle.edge_play.proofs.Worlds.{after_turn, ready-unchanged, ready-stopped}
+use Rattle.edge_play.specs.OneResult.{after_turn}
+use Rattle.edge_play.proofs.Worlds.{ready-unchanged, ready-stopped}
 
 pub ready-closed : (world : World) (place : ℕ) → IsReady world → place < length world.seats → IsReady (after_turn world place (closed_turn world.past (seat_at world.seats place)))
 ready-closed world place ready within =

@@ -9,4 +9,5 @@ pub mod Scripts
 pub mod Seats
 pub mod Tries
 pub mod Turning
+pub mod Wants
 pub mod Worlds

@@ -44,7 +44,7 @@ pub may_turn-script : (most reading : ℕ) (past after : List Entry) (seat moved
 may_turn-script most reading past after seat moved turn =
     elim turn [
       | inl t ↦ ap (λ (s : Seat). s.script) t.seat_is ∙ turned-script most reading past seat
-      | inr short ↦ ap (λ (s : Seat). s.script) short.1.seat_is ∙ stopped-script past seat reading outcome.OutOfMemory
+      | inr short ↦ ap (λ (s : Seat). s.script) short.1.1.seat_is ∙ stopped-script past seat reading outcome.OutOfMemory
     ]
 
 pub scripts-set : (place : ℕ) (seats : List Seat) (moved : Seat) → moved.script ≡ (seat_at seats place).script → scripts_of (slice_set seats place moved) ≡ scripts_of seats

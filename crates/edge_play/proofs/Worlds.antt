@@ -12,6 +12,7 @@ use Rattle.cache_types.specs.Step.{entry_after, reply_after, is_full}
 use Rattle.edge_journal.specs.declared.run.Step.{Step}
 use Rattle.edge_play.specs.Script.{next_call}
 use Rattle.edge_play.specs.Schedule.{Seat, Turn, AreAfter, World, seat_at, seat_with, outcome_after, unchanged, answered, stopped, tried, asked, turned, MayTurn, StepGives}
+use Rattle.edge_play.specs.OneResult.{after_turn}
 use Rattle.edge_play.specs.Ready.{IsGoing, IsSeatState, SeatStands, AllStand, IsReady}
 use Rattle.edge_play.proofs.Calls.{may-call}
 use Rattle.edge_play.proofs.Results.{none-from}
@@ -23,10 +24,6 @@ pub stands-at : (past : List Entry) (place : ℕ) (seats : List Seat) → AllSta
 stands-at past place [] stand within = absurd (omega arith)
 stands-at past zero (seat ∷ seats) stand within = stand.0
 stands-at past (suc place) (seat ∷ seats) stand within = stands-at past place seats stand.1 (omega arith)
-
--- the world with this turn at the place
-abbrev pub after_turn : World → ℕ → Turn → World
-after_turn world place turn = record { past = turn.past; seats = slice_set world.seats place turn.seat }
 
 pub ready-unchanged : (world : World) (place : ℕ) → IsReady world → place < length world.seats → IsReady (after_turn world place (unchanged world.past (seat_at world.seats place)))
 ready-unchanged world place ready within = ready-same world place (seat_at world.seats place) ready within refl (stands-at world.past place world.seats ready.stand within)
@@ -90,7 +87,7 @@ ready-may_turn world most place reading past moved ready within turn =
     let seat : Seat = seat_at world.seats place in
     elim turn [
       | inl after ↦ ready-after world place (turned most reading world.past seat) past moved after (ready-turned world most place reading ready within)
-      | inr short ↦ ready-after world place (stopped world.past seat reading outcome.OutOfMemory) past moved short.1
+      | inr short ↦ ready-after world place (stopped world.past seat reading outcome.OutOfMemory) past moved short.1.1
           (ready-stopped world place reading outcome.OutOfMemory ready within (none-from seat.outcome short.0) (λ s t cut. cut))
     ]
 

@@ -1,5 +1,5 @@
 -- The fold of a schedule's steps over guests that share one cache. `past` has the newest entry first.
-use Rattle.std.specs.Prelude.{◌≡◌, ◌⊎◌, ℕ, ◌+◌, ◌-◌, Bool, false, ◌&&◌, nat_le, map, List, [], ◌∷◌, ◌++◌, ◌==◌, slice_set, Option, None, Some, is_some, unwrap_or, if◌then◌else◌}
+use Rattle.std.specs.Prelude.{◌≡◌, ◌⊎◌, ℕ, ◌+◌, ◌-◌, Bool, false, ◌&&◌, nat_le, not, map, List, [], ◌∷◌, ◌++◌, ◌==◌, slice_set, IsTrue, Option, None, Some, is_some, unwrap_or, if◌then◌else◌}
 use Rattle.std.specs.List.{slice_index_or, list_all}
 use Rattle.cache_types.specs.declared.calls.CacheCall.{CacheCall}
 use Rattle.cache_types.specs.declared.calls.CacheCall.TheVariants.{End}
@@ -79,21 +79,27 @@ abbrev pub asked : ℕ → List Entry → Seat → ℕ → Option CacheCall → 
 asked most past seat reading None = unchanged past seat
 asked most past seat reading (Some call) = tried most past seat reading call
 
--- what a try may lead to: want of memory may stop the guest
+-- what a try may lead to: want of memory may stop the guest at any call but its End
 abbrev pub MayTry : ℕ → ℕ → List Entry → Seat → CacheCall → List Entry → Seat → Type 0
 MayTry most reading past seat call after moved =
-    AreAfter after moved (tried most past seat reading call) ⊎ AreAfter after moved (stopped past seat reading outcome.OutOfMemory)
+    AreAfter after moved (tried most past seat reading call)
+    ⊎ (IsTrue (not (is_end call)) × AreAfter after moved (stopped past seat reading outcome.OutOfMemory))
 
 -- one step of a guest; one that is over does nothing
 abbrev pub turned : ℕ → ℕ → List Entry → Seat → Turn
 turned most reading past seat =
     if is_some seat.outcome then unchanged past seat else asked most past seat reading (next_call seat.script seat.values)
 
--- what a step may lead to: want of memory may stop a guest that goes on
+-- a call that may want memory: any but End
+abbrev pub may_want : Option CacheCall → Bool
+may_want None = false
+may_want (Some call) = not (is_end call)
+
+-- what a step may lead to: want of memory may stop a guest that goes on, at any call but its End
 abbrev pub MayTurn : ℕ → ℕ → List Entry → Seat → List Entry → Seat → Type 0
 MayTurn most reading past seat after moved =
     AreAfter after moved (turned most reading past seat)
-    ⊎ ((is_some seat.outcome ≡ false) × AreAfter after moved (stopped past seat reading outcome.OutOfMemory))
+    ⊎ ((is_some seat.outcome ≡ false) × (IsTrue (may_want (next_call seat.script seat.values)) × AreAfter after moved (stopped past seat reading outcome.OutOfMemory)))
 
 -- the entries and all guests
 pub record World : Type 0 where

@@ -1,9 +1,10 @@
-ghost use Rattle.std.specs.Prelude.{◌≡◌, ◌-◌, ◌<◌, [], true, length, map, IsTrue, IfOk, OnOk, is_some};
+ghost use Rattle.std.specs.Prelude.{◌≡◌, ◌-◌, ◌<◌, [], true, false, length, map, IsTrue, IfOk, OnOk, is_some};
 ghost use Rattle.std.specs.List.{list_all};
 ghost use Rattle.cache_types.specs.Entries.{newest_first};
 ghost use Rattle.cache_types.specs.Legal.{IsLegal};
 ghost use Rattle.edge_play.specs.Schedule.{AreAfter, StepGives, PlayGives, ClosesAt, new_seat, closed_turn, closed, block_of, blocks_from, IsPlayed, are_steps_of};
 ghost use Rattle.edge_play.specs.Blocks.{HasBlocks, is_script, keep_limits};
+ghost use Rattle.edge_play.specs.OneResult.{IsOneResult, one_wanted};
 ghost use Rattle.edge_play.specs.Ready.{SeatStands, IsReady, AllOver, scripts_of, world_of};
 
 use crate::player::Player;
@@ -148,6 +149,8 @@ pub fn play_scripts<S: OneCache>(
     requires scripts { IsTrue (list_all is_script scripts.now) }
     requires steps { IsTrue (are_steps_of (length scripts.now) steps.now) }
     ensures schedule { IfOk result (λ blocks. IsPlayed (S.most cache.old) scripts.now steps.now (S.history cache.new) blocks.items) }
+    // Where no block tells want of memory, there is no other result.
+    ensures one_result { IfOk result (λ blocks. one_wanted blocks.items ≡ false → IsOneResult (S.most cache.old) scripts.now steps.now (S.history cache.new) blocks.items) }
     ensures legal { OnOk result (IsLegal (S.history cache.new)) }
     ensures limits { OnOk result (IsTrue (keep_limits (S.history cache.new))) }
     ensures blocks { IfOk result (λ blocks. HasBlocks (S.history cache.new) scripts.now blocks.items) }

@@ -1,4 +1,4 @@
-ghost use Rattle.std.specs.Prelude.{◌≡◌, ℕ, List, Result, Ok, Err, IfOk};
+ghost use Rattle.std.specs.Prelude.{◌≡◌, ◌≤◌, ℕ, List, Result, Ok, Err, IfOk};
 ghost use Rattle.edge_outside.specs.declared.fault.Failed.{Failed};
 ghost use Rattle.edge_outside.specs.declared.fault.IoFault.{IoFault};
 ghost use Rattle.edge_outside.specs.Faults.{Rose};
@@ -16,12 +16,13 @@ use std::alloc::{AllocError, Global};
 /// The greatest number of entries and live guests.
 const MOST_ENTRIES: u64 = 1_000_000;
 
-/// The journal of a run.
-fn journal_of(alloc: Global, run: &Run) -> Result<Octets, AllocError>
-    requires { IsRun run.now }
-    ensures { IfOk result (IsJournalOf run.now) }
+/// The journal of a run over a cache with room for so many entries and live guests.
+pub fn journal_of(alloc: Global, most: u64, run: &Run) -> Result<Octets, AllocError>
+    requires room { 2 ≤ most }
+    requires run { IsRun run.now }
+    ensures { IfOk result (IsJournalOf most run.now) }
 {
-    let mut cache = PlainCache::new(alloc, MOST_ENTRIES);
+    let mut cache = PlainCache::new(alloc, most);
     let blocks = play_scripts(alloc, &mut cache, run.guests.items(), run.steps.items())?;
     let history = cache.into_history();
     journal_text(alloc, &history, blocks.as_slice())
@@ -33,7 +34,7 @@ fn write_journal<K: Sink>(alloc: Global, bytes: &[u8], run: &Run, out: &mut K) -
     ensures after { AfterFile (λ text. K.writes out.old text (Ok tt) out.new) (λ text. (fault : Failed) × K.writes out.old text (Err fault) out.new) (out.new ≡ out.old) bytes.now result }
     ensures write_fault { result ≡ Exit.WriteFault → Rose (K.faults out.old) (K.faults out.new) }
 {
-    let Ok(text) = journal_of(alloc, run) else {
+    let Ok(text) = journal_of(alloc, MOST_ENTRIES, run) else {
         return Exit::OutOfMemory;
     };
     match out.write(text.bytes()) {

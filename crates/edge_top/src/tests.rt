@@ -1,15 +1,18 @@
+use crate::script::journal_of;
 use crate::{Exit, host};
+use edge_journal::read_run;
 use edge_outside::{MemFiles, MemSink, NamedFile, NoLink};
 use std::alloc::AllocError;
 use std::test::Fail;
 
-/// How `host` exits with these words, and what it wrote, where `a.run` has the text and the writes
-/// with these numbers fail.
+/// How `host` exits with these words, and what it wrote, where `a.run` has the text, and the reads
+/// and the writes with these numbers fail.
 fn exit_of(
     rt: &HostRuntime,
     words: &[&str],
     text: &str,
-    fails: &[u64],
+    reads: &[u64],
+    writes: &[u64],
 ) -> Result<(Exit, Vec<u8>), AllocError> {
     let alloc = rt.alloc();
     let mut named = Vec::new(alloc);
@@ -17,8 +20,8 @@ fn exit_of(
         name: String::from_str(alloc, "a.run")?,
         bytes: text.as_bytes().to_vec(alloc)?,
     })?;
-    let mut files = MemFiles::new(alloc, named, Vec::new(alloc));
-    let mut out = MemSink::new(alloc, fails.to_vec(alloc)?);
+    let mut files = MemFiles::new(alloc, named, reads.to_vec(alloc)?);
+    let mut out = MemSink::new(alloc, writes.to_vec(alloc)?);
     let mut list = Vec::new(alloc);
     for word in words {
         list.push(String::from_str(alloc, word)?)?;
@@ -52,25 +55,30 @@ const JOURNALS: [(&str, &str); 3] = [
 #[test]
 fn journals_are_written(rt: HostRuntime) -> Result<(), Fail> {
     for (text, journal) in JOURNALS {
-        let (exit, written) = exit_of(&rt, &["script", "a.run"], text, &[])?;
+        let (exit, written) = exit_of(&rt, &["script", "a.run"], text, &[], &[])?;
         assert_eq!(rt; exit, Exit::Ok);
         assert_eq!(rt; written.as_slice(), journal.as_bytes());
     }
     Ok(())
 }
 
-/// Words, a run file, the writes that fail, and the exit; nothing is written.
-const FAULTS: [(&[&str], &str, &[u64], Exit); 8] = [
-    (&[], EMPTY, &[], Exit::Usage),
-    (&["load", "07"], EMPTY, &[], Exit::Usage),
-    (&["script", "-a"], EMPTY, &[], Exit::Usage),
-    (&["script", "a.run", "b"], EMPTY, &[], Exit::Usage),
-    (&["script", "none"], EMPTY, &[], Exit::ReadFault),
-    (&["script", "a.run"], EMPTY, &[1], Exit::WriteFault),
-    (&["script", "a.run"], "", &[], Exit::RunBad { line: 1 }),
+/// Words, a run file, the reads and the writes that fail, and the exit; nothing is written.
+const FAULTS: [(&[&str], &str, &[u64], &[u64], Exit); 12] = [
+    (&[], EMPTY, &[], &[], Exit::Usage),
+    (&["script"], EMPTY, &[], &[], Exit::Usage),
+    (&["script", ""], EMPTY, &[], &[], Exit::Usage),
+    (&["Script", "a.run"], EMPTY, &[], &[], Exit::Usage),
+    (&["load", "07"], EMPTY, &[], &[], Exit::Usage),
+    (&["script", "-a"], EMPTY, &[], &[], Exit::Usage),
+    (&["script", "a.run", "b"], EMPTY, &[], &[], Exit::Usage),
+    (&["script", "none"], EMPTY, &[], &[], Exit::ReadFault),
+    (&["script", "a.run"], EMPTY, &[1], &[], Exit::ReadFault),
+    (&["script", "a.run"], EMPTY, &[], &[1], Exit::WriteFault),
+    (&["script", "a.run"], "", &[], &[], Exit::RunBad { line: 1 }),
     (
         &["script", "a.run"],
         "edge-run 1\nguest\nlookup 6b\nlookup 6\nsteps\nend\n",
+        &[],
         &[],
         Exit::RunBad { line: 4 },
     ),
@@ -78,10 +86,25 @@ const FAULTS: [(&[&str], &str, &[u64], Exit); 8] = [
 
 #[test]
 fn faults_are_told(rt: HostRuntime) -> Result<(), Fail> {
-    for (words, text, fails, exit) in FAULTS {
-        let (told, written) = exit_of(&rt, words, text, fails)?;
+    for (words, text, reads, writes, exit) in FAULTS {
+        let (told, written) = exit_of(&rt, words, text, reads, writes)?;
         assert_eq!(rt; told, exit);
         assert_eq!(rt; written.len(), 0);
     }
+    Ok(())
+}
+
+/// A guest that is stopped because the history is full, in the middle of its lines and before its
+/// Begin: the room is for four entries and live guests.
+const FULL: (&str, &str) = (
+    "edge-run 1\nguest\nlookup 6b\nlookup 6b\nlookup 6b\nguest\nlookup 6b\nsteps\n0 1\n0 1\n0 1\n5 1\n5 1\n5 2\nend\n",
+    "edge-journal 1\n1 1 0 begin = begun\n2 1 0 lookup 6b = got 0\n3 1 0 lookup 6b = got 0\n4 1 5 end = done\nguest 1 1\nc 1\nc 2\nc 3\nc 4\nover full\nguest 2 0\nover full\nend 4\n",
+);
+
+#[test]
+fn a_full_history_stops_guests(rt: HostRuntime) -> Result<(), Fail> {
+    let run = read_run(rt.alloc(), FULL.0.as_bytes()).map_err(|_| "no run")?;
+    let journal = journal_of(rt.alloc(), 4, &run)?;
+    assert_eq!(rt; journal.bytes(), FULL.1.as_bytes());
     Ok(())
 }

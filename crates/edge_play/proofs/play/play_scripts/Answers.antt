@@ -1,11 +1,12 @@
-use Rattle.std.proofs.Common.{◌≡◌, [], map, ap, subst, sym, ◌∙◌}
+use Rattle.std.proofs.Common.{◌≡◌, List, [], map, ap, subst, sym, ◌∙◌}
 use Rattle.cache_types.specs.declared.entries.Entry.{Entry}
 use Rattle.cache_types.specs.Limits.{is_within_limits}
 use Rattle.cache_types.specs.Entries.{newest_first}
-use Rattle.edge_play.specs.Schedule.{new_seat, blocks_from}
+use Rattle.edge_play.specs.Schedule.{Seat, World, PlayGives, start_of, new_seat, blocks_from}
 use Rattle.edge_play.specs.Blocks.{HasBlocks}
 use Rattle.edge_play.specs.Ready.{IsReady, scripts_of, world_of}
 use Rattle.edge_play.proofs.Ends.{start-ready, scripts-start, has-blocks, list_all-reverse}
+use Rattle.edge_play.proofs.Wants.{one-result}
 use Rattle.edge_play.proofs.Results.{ifok-one, onok-from}
 use Rattle.edge_play.proofs.play.play_scripts.Goals as goal
 
@@ -29,3 +30,23 @@ returns-clause-blocks g c =
 pub returns-clause-limits : goal.returns-clause-limits
 returns-clause-limits g c =
     onok-from c.blocks_of.result (list_all-reverse (λ (e : Entry). is_within_limits e.call) (g.S.OneCache.history c.close.new.cache) c.in_ok-close.ensures.ready.limits)
+
+pub returns-clause-one_result : goal.returns-clause-one_result
+returns-clause-one_result g c =
+    let history = g.S.OneCache.history in
+    let most = g.S.OneCache.most c.args.cache.now in
+    let scripts = c.args.scripts.now in
+    let last : World = world_of (history c.take_steps.new.cache) c.take_steps.new.players.items in
+    let first : world_of (history c.args.cache.now) c.in_ok-players.players.items ≡ start_of scripts =
+    ap (λ (past : List Entry). record { past = past; seats = c.in_ok-players.players.items }) (ap newest_first c.requires.empty)
+    ∙ ap (λ (seats : List Seat). record { past = []; seats = seats }) c.in_ok-players.ensures
+    in
+    ifok-one c.blocks_of.result c.blocks_of.ensures
+    (λ blocks is.
+    one-result most scripts c.args.steps.now (history c.close.new.cache) blocks.items c.requires.steps
+    (record {
+      last = last;
+      steps_give = subst (λ (world : World). PlayGives most c.args.steps.now world last) first c.in_ok-take_steps.ensures.play;
+      history_is = ap (λ (world : World). world.past) c.in_ok-close.ensures.closed;
+      blocks_are = is ∙ (ap (blocks_from 1) c.as_slice.ensures.value ∙ ap (λ (world : World). blocks_from 1 world.seats) c.in_ok-close.ensures.closed);
+    }))

@@ -1,10 +1,11 @@
-use Rattle.std.proofs.Common.{◌≡◌, ap, subst, inl}
+use Rattle.std.proofs.Common.{◌≡◌, false, not, ap, subst, inl, inr}
 use Rattle.std.specs.Prelude.{Err}
-use Rattle.cache_types.specs.declared.entries.StepFault.TheVariants.{Full}
-use Rattle.cache_types.specs.Entries.{newest_first}
+use Rattle.cache_types.specs.declared.entries.StepFault.TheVariants.{Full, OutOfMemory}
+use Rattle.cache_types.specs.declared.outer.Outcome.TheVariants as outcome
+use Rattle.cache_types.specs.Entries.{newest_first, is_end}
 use Rattle.cache_types.specs.Step.{stepped, history_after, WouldAppend}
-use Rattle.edge_play.specs.Schedule.{Seat}
-use Rattle.edge_play.proofs.Results.{onok-both, onok-one}
+use Rattle.edge_play.specs.Schedule.{Seat, AreAfter, stopped}
+use Rattle.edge_play.proofs.Results.{onok-both, onok-one, fails-not}
 use Rattle.edge_play.proofs.Tries.{answer-turn, full-turn}
 use Rattle.edge_play.proofs.turns.attempt.Goals as goal
 
@@ -32,3 +33,12 @@ returns-in-Err-Full-clause-turn g c =
     let same : newest_first (g.S.OneCache.history c.step.new.self) ≡ newest_first history = ap newest_first c.in-Err-Full.ensures.unchanged in
     onok-one c.stop.result c.stop.ensures.turn
     (λ turn. inl (full-turn (g.S.OneCache.most c.args.cache.now) (newest_first history) (newest_first (g.S.OneCache.history c.step.new.self)) (newest_first (g.S.OneCache.history c.stop.new.cache)) c.args.player.now c.stop.new.player c.args.reading c.args.call.now same (c.step.ensures.full is) entry turn))
+
+pub returns-in-Err-OutOfMemory-clause-turn : goal.returns-in-Err-OutOfMemory-clause-turn
+returns-in-Err-OutOfMemory-clause-turn g c =
+    let history = g.S.OneCache.history c.args.cache.now in
+    let is : c.step.result ≡ Err OutOfMemory = cc in
+    let goes : is_end c.args.call.now ≡ false = fails-not c.step.result OutOfMemory (is_end c.args.call.now) is c.step.ensures.end in
+    let same : newest_first (g.S.OneCache.history c.step.new.self) ≡ newest_first history = ap newest_first c.in-Err-OutOfMemory.ensures.unchanged in
+    onok-one c.stop-in-Err-OutOfMemory.result c.stop-in-Err-OutOfMemory.ensures.turn
+    (λ turn. inr (ap not goes, subst (λ entries. AreAfter (newest_first (g.S.OneCache.history c.stop-in-Err-OutOfMemory.new.cache)) c.stop-in-Err-OutOfMemory.new.player (stopped entries c.args.player.now c.args.reading outcome.OutOfMemory)) same turn))
