@@ -7,10 +7,11 @@ use Rattle.cache_types.specs.declared.calls.CacheCall.{CacheCall}
 use Rattle.cache_types.specs.declared.calls.CacheCall.TheVariants.{Begin, End}
 use Rattle.cache_types.specs.Entries.{is_begin, is_end}
 use Rattle.cache_types.specs.Limits.{is_within_limits}
-use Rattle.edge_journal.specs.declared.run.Named.{Named}
-use Rattle.edge_journal.specs.declared.run.Line.{Line}
+use Rattle.call_lines.specs.declared.line.Named.{Named}
+use Rattle.call_lines.specs.declared.line.Line.{Line}
 use Rattle.edge_journal.specs.declared.run.Step.{Step}
-use Rattle.edge_journal.specs.Run.{IsForm, is_before, IsLineAt, AreLinesFrom, AreGuests, AreStepsOf}
+use Rattle.call_lines.specs.Lines.{is_before}
+use Rattle.edge_journal.specs.Run.{IsForm, IsLineAt, AreLinesFrom, AreGuests, AreStepsOf}
 use Rattle.edge_play.specs.Blocks.{is_script, is_script_line}
 use Rattle.edge_play.specs.Schedule.{are_steps_of, is_step_of}
 
