@@ -1,4 +1,3 @@
-pub mod Forms
 pub mod Told
 pub mod Texts
 pub mod Machines

@@ -7,14 +7,12 @@
 
 mod form;
 mod journal;
-mod limits;
 mod machine;
 mod outcome;
 mod outer;
 mod reader;
 mod run;
-mod words;
 
 pub use journal::journal_text;
 pub use reader::read_run;
-pub use run::{Blocks, Line, Lines, Named, Run, RunFault, Step, Steps};
+pub use run::{Blocks, Lines, Run, RunFault, Step, Steps};
