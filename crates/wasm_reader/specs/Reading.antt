@@ -181,7 +181,7 @@ crowded full (Ok n) = Err full
 crowded full (Err fault) = if is_bad_leb fault.kind then Err fault else Err full
 
 unfoldable pub crowded_at : Scope → List ℕ → Reading ℕ
-crowded_at scope bytes = crowded (fault_at TooLarge scope bytes) (u32_at scope bytes)
+crowded_at scope bytes = crowded (fault_at TooLarge scope bytes) (u32_at (record { end = scope.end; short = TooLarge }) bytes)
 
 -- the count of groups of locals
 unfoldable pub groups_at : ℕ → Scope → List ℕ → Reading ℕ

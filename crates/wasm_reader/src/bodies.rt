@@ -24,7 +24,11 @@ fn is_bad_leb(kind: ReadKind) -> bool
 fn crowded(scope: Scope, bytes: &[u8]) -> Stop
     ensures { Fails result (crowded_at scope bytes.now) }
 {
-    match read_u32(scope, bytes) {
+    let cut = Scope {
+        end: scope.end,
+        short: ReadKind::TooLarge,
+    };
+    match read_u32(cut, bytes) {
         Ok(_) => Stop::Fault(fault_at(ReadKind::TooLarge, scope, bytes)),
         Err(Stop::Memory) => Stop::Memory,
         Err(Stop::Fault(fault)) => {

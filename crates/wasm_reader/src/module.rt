@@ -1,9 +1,10 @@
 //! Modules (section 5.5.15).
 
-ghost use Rattle.std.specs.Prelude.{◌≡◌, IfOk, Ok, []};
+ghost use Rattle.std.specs.Prelude.{◌≡◌, ◌⊎◌, IfOk, IfErr, Ok, []};
 ghost use Rattle.wasm_types.specs.declared.modules.Module.{Module};
-ghost use Rattle.wasm_code.specs.Reading.{Gives, Answers, vector_at};
+ghost use Rattle.wasm_code.specs.Reading.{Gives, Answers, no_memory, vector_at};
 ghost use Rattle.wasm_reader.specs.Grammar.{IsModule};
+ghost use Rattle.wasm_reader.specs.FirstFault.{IsFirstFault};
 ghost use Rattle.wasm_reader.specs.Reading.{magic_at, version_at, ended_at, end_at, section_at, sections_at, whole_at, module_at};
 
 use crate::bodies::Bodies;
@@ -164,6 +165,10 @@ pub fn read_module(alloc: Global, bytes: &[u8]) -> Result<Module, ReadFault>
 
     // Which fault it is.
     ensures exact { Answers (λ m. m) result (module_at bytes.now) }
+
+    // The fault is the first one: nothing is wrong before its place, and nothing that follows mends it, with the
+    // exceptions that are named there.
+    ensures first { IfErr result (λ fault. (fault ≡ no_memory) ⊎ IsFirstFault bytes.now fault) }
 {
     read_all(alloc, bytes)
 }
