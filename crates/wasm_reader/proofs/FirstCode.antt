@@ -16,7 +16,7 @@ use Rattle.wasm_code.proofs.FirstNumbers.{unsigned_fails, u32_reads}
 use Rattle.wasm_code.proofs.FirstInstructions.{u32_nil, count_reads}
 use Rattle.wasm_code.proofs.FirstExpressions.{expression_reads}
 use Rattle.wasm_reader.specs.Grammar.{params_of}
-use Rattle.wasm_reader.specs.Reading.{sized_at, crowded_at, groups_at, locals_from, locals_at, body_at, bodies_at, code_section_at}
+use Rattle.wasm_reader.specs.Sections.{sized_at, crowded_at, groups_at, locals_from, locals_at, body_at, bodies_at, code_section_at}
 use Rattle.wasm_reader.specs.FirstFault.{IsCut, IsNotMended, IsCutCount, IsFirstBut}
 use Rattle.wasm_reader.proofs.FirstCarried.{failed, same_fault, fault_no_value, Tells, tells_plainly, after}
 use Rattle.wasm_reader.proofs.FirstContent.{cases}

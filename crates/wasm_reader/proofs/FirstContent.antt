@@ -10,7 +10,7 @@ use Rattle.wasm_code.specs.Reading.{Reading, ◌>>=◌, fault_at, short_of, u32_
 use Rattle.wasm_code.proofs.Steps.{bind_ok, ok_is}
 use Rattle.wasm_code.proofs.FirstSequences.{TakesFront, bind_err}
 use Rattle.wasm_code.proofs.FirstNumbers.{u32_reads}
-use Rattle.wasm_reader.specs.Reading.{Inside, open_at}
+use Rattle.wasm_reader.specs.Sections.{Inside, open_at}
 use Rattle.wasm_reader.specs.FirstFault.{IsCut, IsFirstBut, TellsFirstBut}
 use Rattle.wasm_reader.proofs.FirstCarried.{failed, given, same_fault, fault_no_value, Any, any, carry, Tells}
 

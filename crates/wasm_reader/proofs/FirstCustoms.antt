@@ -5,7 +5,8 @@ use Rattle.wasm_code.specs.declared.scope.Scope.{Scope}
 use Rattle.wasm_code.specs.Reading.{Reading, ◌>>=◌, short_of}
 use Rattle.wasm_code.proofs.Steps.{bind_ok}
 use Rattle.wasm_code.proofs.FirstSequences.{bind_err}
-use Rattle.wasm_reader.specs.Reading.{Inside, name_at, open_at, close_at, custom_at, next_custom_at, customs_from, customs_at}
+use Rattle.wasm_reader.specs.Reading.{name_at}
+use Rattle.wasm_reader.specs.Sections.{Inside, open_at, close_at, custom_at, next_custom_at, customs_from, customs_at}
 use Rattle.wasm_reader.specs.FirstFault.{IsCut}
 use Rattle.wasm_reader.proofs.Loops.{customs_go, customs_stop}
 use Rattle.wasm_reader.proofs.ExactSections.{next_some, custom_takes, found}

@@ -11,7 +11,8 @@ use Rattle.wasm_code.specs.Reading.{◌>>=◌, fault_at, short_of, u32_at, vecto
 use Rattle.wasm_code.proofs.FirstNumbers.{u32_reads}
 use Rattle.wasm_code.proofs.FirstInstructions.{vector_reads}
 use Rattle.wasm_reader.specs.Grammar.{IsModule}
-use Rattle.wasm_reader.specs.Reading.{func_type_at, import_at, table_at, memory_at, global_at, export_at, start_at, element_at, code_section_at, segment_at, magic_at, version_at, end_at, sections_at, whole_at, module_at}
+use Rattle.wasm_reader.specs.Reading.{func_type_at, import_at, table_at, memory_at, global_at, export_at, start_at, element_at, segment_at}
+use Rattle.wasm_reader.specs.Sections.{code_section_at, magic_at, version_at, end_at, sections_at, whole_at, module_at}
 use Rattle.wasm_reader.specs.FirstFault.{IsUnfinished, IsOutgrown, IsNotMended, IsCutCount, IsFirstBut, TellsFirstBut, EndsAt, StillTells, IsFirstFault}
 use Rattle.wasm_reader.proofs.ExactModule.{module_complete}
 use Rattle.wasm_reader.proofs.FirstParts.{func_type_reads, import_reads, table_reads, memory_reads, global_reads, export_reads, start_reads, element_reads, segment_reads}

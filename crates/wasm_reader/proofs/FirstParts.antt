@@ -29,7 +29,8 @@ use Rattle.wasm_code.proofs.FirstSequences.{TakesFront, Reads, both, done, mappe
 use Rattle.wasm_code.proofs.FirstNumbers.{u32_reads}
 use Rattle.wasm_code.proofs.FirstInstructions.{Row, err_is, ok_not_err, err_not_ok, count_reads, vector_reads, by_byte, row_if}
 use Rattle.wasm_code.proofs.FirstExpressions.{value_type_reads, expression_reads}
-use Rattle.wasm_reader.specs.Reading.{bytes_at, name_at, byte_at, results_at, func_type_at, flag_at, limits_at, memory_at, table_at, global_type_at, import_kind_at, import_at, export_kind_at, export_at, global_at, element_at, segment_at, start_at, locals_from}
+use Rattle.wasm_reader.specs.Reading.{bytes_at, name_at, byte_at, results_at, func_type_at, flag_at, limits_at, memory_at, table_at, global_type_at, import_kind_at, import_at, export_kind_at, export_at, global_at, element_at, segment_at, start_at}
+use Rattle.wasm_reader.specs.Sections.{locals_from}
 
 -- ---- so many bytes, and a name
 

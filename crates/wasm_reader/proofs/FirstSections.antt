@@ -6,7 +6,7 @@ use Rattle.wasm_code.specs.declared.fault.ReadKind.TheVariants.{SectionOrder, Co
 use Rattle.wasm_code.specs.declared.fault.ReadFault.{ReadFault}
 use Rattle.wasm_code.specs.declared.scope.Scope.{Scope}
 use Rattle.wasm_code.specs.Reading.{Reading, ◌>>=◌, fault_at, short_of}
-use Rattle.wasm_reader.specs.Reading.{sized_at, customs_at, optional_at, section_at, ended_at, end_at}
+use Rattle.wasm_reader.specs.Sections.{sized_at, customs_at, optional_at, section_at, ended_at, end_at}
 use Rattle.wasm_reader.specs.FirstFault.{IsCut, IsUnfinished, IsFirstBut, TellsFirstBut}
 use Rattle.wasm_reader.proofs.ExactSections.{next_some, custom_takes}
 use Rattle.wasm_reader.proofs.FirstCarried.{failed, same_fault, IsOpen, Any, any, carry, Tells}

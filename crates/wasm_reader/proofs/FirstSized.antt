@@ -10,7 +10,7 @@ use Rattle.wasm_code.specs.Reading.{Reading, ◌>>=◌, fault_at, short_of, u32_
 use Rattle.wasm_code.proofs.Steps.{pair_is, same_ok}
 use Rattle.wasm_code.proofs.FirstSequences.{IsLocal}
 use Rattle.wasm_code.proofs.FirstNumbers.{u32_reads}
-use Rattle.wasm_reader.specs.Reading.{Inside, open_at, close_at, sized_at}
+use Rattle.wasm_reader.specs.Sections.{Inside, open_at, close_at, sized_at}
 use Rattle.wasm_reader.specs.FirstFault.{IsCut, IsOutgrown, IsNotMended, IsCutCount, IsFirstBut, TellsFirstBut}
 use Rattle.wasm_reader.proofs.FirstCarried.{failed, given, same_fault, fault_no_value, Any, any, carry, plainly, Tells}
 use Rattle.wasm_reader.proofs.FirstContent.{cases, IsFinished, Content, left_of, all_of, closed, within, shut, part_at, IsSize, open_fails, size_cases, whole_fails, whole_is, cut_fails, cut_short, cut_ends, deeper}

@@ -5,7 +5,7 @@ use Rattle.wasm_types.specs.declared.modules.Module.{Module}
 use Rattle.wasm_code.specs.declared.fault.ReadFault.{ReadFault}
 use Rattle.wasm_code.specs.Reading.{Answers, no_memory}
 use Rattle.wasm_reader.specs.Grammar.{IsModule}
-use Rattle.wasm_reader.specs.Reading.{module_at}
+use Rattle.wasm_reader.specs.Sections.{module_at}
 use Rattle.wasm_reader.specs.FirstFault.{IsFirstFault}
 use Rattle.wasm_reader.proofs.ExactModule.{module_sound, module_complete}
 use Rattle.wasm_reader.proofs.FirstModule.{first_fault}

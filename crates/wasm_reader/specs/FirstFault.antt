@@ -8,7 +8,7 @@ use Rattle.wasm_code.specs.declared.fault.ReadFault.{ReadFault}
 use Rattle.wasm_code.specs.declared.scope.Scope.{Scope}
 use Rattle.wasm_code.specs.Reading.{fault_at, short_of, u32_at}
 use Rattle.wasm_reader.specs.Grammar.{IsModule}
-use Rattle.wasm_reader.specs.Reading.{module_at}
+use Rattle.wasm_reader.specs.Sections.{module_at}
 
 -- ---- in a scope
 

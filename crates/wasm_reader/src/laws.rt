@@ -10,7 +10,8 @@ ghost use Rattle.std.specs.Prelude.{List, ℕ};
 ghost use Rattle.wasm_types.specs.declared.types.FuncType.{FuncType};
 ghost use Rattle.wasm_code.specs.Instructions.{value_type_at};
 ghost use Rattle.wasm_code.specs.FirstFault.{TellsFirst};
-ghost use Rattle.wasm_reader.specs.Reading.{name_at, bytes_at, func_type_at, limits_at, table_at, memory_at, global_type_at, import_at, global_at, export_at, element_at, segment_at, start_at, body_at, code_section_at, sections_at};
+ghost use Rattle.wasm_reader.specs.Reading.{name_at, bytes_at, func_type_at, limits_at, table_at, memory_at, global_type_at, import_at, global_at, export_at, element_at, segment_at, start_at};
+ghost use Rattle.wasm_reader.specs.Sections.{body_at, code_section_at, sections_at};
 ghost use Rattle.wasm_reader.specs.FirstFault.{IsCut, IsUnfinished, TellsFirstBut};
 
 /// The fault of a name, of a type, of an import, global, export, start or segment is the first one.
