@@ -46,27 +46,45 @@ def case(rng):
     return mutated(rng, rng.choice((SMALL, LARGE)))
 
 
+def read(program, path, cases):
+    """What reading each module tells: None where it is Ok, else the fault's kind and place."""
+    open(path, "wb").write(packed(cases))
+    run = subprocess.run([program, path], capture_output=True, text=True)
+    assert run.returncode == 0, run
+    lines = run.stdout.splitlines()
+    assert len(lines) == len(cases), len(lines)
+    told = []
+    for line in lines:
+        found = re.search(r"kind: (\w+), place: (\d+)", line)
+        assert found or line.endswith(" ok"), line
+        told.append((found[1], int(found[2])) if found else None)
+    return told
+
+
+def first(data, fault, front, behind):
+    """Whether the fault is the first one: by what is told of the bytes before its place, and with bytes behind."""
+    kind, place = fault
+    assert kind != "OutOfMemory" and place <= len(data), (fault, data.hex())
+    right = front is None or front in (("Truncated", place), ("CountMismatch", place))
+    assert right or fault == front == ("SectionSize", place), (fault, front, data.hex())
+    at_end = place == len(data) and kind in ("Truncated", "CountMismatch")
+    assert at_end or behind == fault, (fault, behind, data.hex())
+
+
 def main():
     rng = random.Random(SEED)
     cases = [case(rng) for _ in range(COUNT)]
     with folder() as work:
         program = build(work)
         path = os.path.join(work, "cases")
-        open(path, "wb").write(packed(cases))
-        run = subprocess.run([program, path], capture_output=True, text=True)
-    assert run.returncode == 0, run
-    lines = run.stdout.splitlines()
-    assert len(lines) == COUNT, len(lines)
-    kinds = collections.Counter()
-    for data, line in zip(cases, lines):
-        if line.endswith(" ok"):
-            kinds["ok"] += 1
-            continue
-        found = re.search(r"kind: (\w+), place: (\d+)", line)
-        assert found, line
-        assert found[1] != "OutOfMemory", line
-        assert int(found[2]) <= len(data), (line, data.hex())
-        kinds[found[1]] += 1
+        told = read(program, path, cases)
+        bad = [(data, fault) for data, fault in zip(cases, told) if fault]
+        fronts = read(program, path, [data[: fault[1]] for data, fault in bad])
+        more = [bytes(rng.randrange(256) for _ in range(rng.randrange(32))) for _ in bad]
+        behind = read(program, path, [data + extra for (data, _), extra in zip(bad, more)])
+    for (data, fault), front, after in zip(bad, fronts, behind):
+        first(data, fault, front, after)
+    kinds = collections.Counter(fault[0] if fault else "ok" for fault in told)
     for name, count in sorted(kinds.items()):
         print(f"{count:6} {name}")
 

@@ -1,14 +1,17 @@
 -- What follows for a call that reads an expression from its being read exactly.
 use Rattle.std.proofs.Common.{◌≡◌, ℕ, ◌+◌, ◌-◌, ◌≤◌, List, length, drop, Result, Ok, Err, refl, ap, subst, arith, inl, inr, length-take, length-drop}
-use Rattle.std.specs.Prelude.{IfOk, slice_range}
+use Rattle.std.specs.Prelude.{IfOk, IfErr, slice_range, ◌⊎◌}
 use Rattle.std.specs.Global.{Vec}
 use Rattle.wasm_types.specs.declared.instructions.Instr.{Instr}
 use Rattle.wasm_code.specs.declared.fault.ReadKind.TheVariants.{SectionSize}
 use Rattle.wasm_code.specs.declared.fault.ReadFault.{ReadFault}
 use Rattle.wasm_code.specs.declared.scope.Scope.{Scope}
 use Rattle.wasm_code.specs.Grammar.{IsInstr, IsExpression}
-use Rattle.wasm_code.specs.Reading.{Answers}
+use Rattle.wasm_code.specs.Reading.{◌>>=◌, Answers, no_memory}
 use Rattle.wasm_code.specs.Instructions.{expression_at, code_at}
+use Rattle.wasm_code.specs.FirstFault.{IsFirst}
+use Rattle.wasm_code.proofs.FirstSequences.{bind_err}
+use Rattle.wasm_code.proofs.FirstExpressions.{expression_tells}
 use Rattle.wasm_code.proofs.Steps.{bind_ok}
 use Rattle.wasm_code.proofs.ExactExpressions.{expression_exact, many_take, instr_takes}
 
@@ -52,3 +55,18 @@ only_code bytes place until r e code rest h =
     let read = (expression_exact (scope_of until)).complete part rest code h in
     let whole : code_at place until bytes ≡ done (made code (until - length rest)) = rw read refl in
     only_from r code (until - length rest) (subst (λ q. Answers (λ x. made x.0.items x.1) r q) whole e)
+
+made_not_err : {P : Type 0} (x : List Instr × ℕ) (f : ReadFault) → done x ≡ Err f → P
+made_not_err x f e = absurd cc
+
+pub first_code : (bytes : List ℕ) (place until : ℕ) (r : Result (Vec Instr × ℕ) ReadFault) → Answers (λ x. made x.0.items x.1) r (code_at place until bytes)
+    → IfErr r (λ f. (f ≡ no_memory) ⊎ IsFirst expression_at (scope_of until) (slice_range bytes place until) f)
+unfolding code_at
+first_code bytes place until (Ok x) e = tt
+first_code bytes place until (Err f) (inl none) = inl none
+first_code bytes place until (Err f) (inr e) =
+    let part = slice_range bytes place until in
+    elim (bind_err (expression_at (scope_of until) part) (λ x. Ok (made x.0 (until - length x.1))) f e) [
+      | inl told ↦ inr (expression_tells (scope_of until) part f told)
+      | inr a ↦ made_not_err (made a.0.0 (until - length a.0.1)) f a.2
+    ]

@@ -1,42 +1,40 @@
--- Vectors, instructions and expressions tell their first fault.
-use Rattle.std.proofs.Common.{◌≡◌, ℕ, zero, suc, ◌-◌, ◌<◌, ◌≤◌, Bool, true, false, cond, eqb, ltb, List, [], ◌∷◌, ◌++◌, length, Option, Some, None, Ok, Err, refl, sym, ap, ◌∙◌, arith, ◌⊎◌, inl, inr, append_assoc}
+-- Vectors, choices by a byte, and instructions tell their first fault.
+use Rattle.std.proofs.Common.{◌≡◌, ℕ, zero, suc, Bool, true, false, cond, eqb, ltb, List, [], ◌∷◌, ◌++◌, Option, Some, None, Ok, Err, refl, sym, ap, ◌∙◌, ◌⊎◌, inl, inr, append_assoc}
 use Rattle.std.proofs.lemmas.Bool.{cases_Bool}
-use Rattle.std.proofs.lemmas.List.{length-append}
 use Rattle.wasm_types.specs.declared.types.ValueType.TheVariants as kinds
 use Rattle.wasm_types.specs.declared.values.Value.TheVariants as values
 use Rattle.wasm_types.specs.declared.instructions.Instr.{Instr}
 use Rattle.wasm_types.specs.declared.instructions.Instr.TheVariants.{Unreachable, Nop, Block, Loop, If, Else, End, Br, BrIf, BrTable, Return, Call, CallIndirect, Drop, Select, LocalGet, LocalSet, LocalTee, GlobalGet, GlobalSet, Load, Store, MemorySize, MemoryGrow, Const}
-use Rattle.wasm_types.specs.Nested.{role_of}
 use Rattle.wasm_code.specs.declared.fault.ReadKind.{ReadKind}
 use Rattle.wasm_code.specs.declared.fault.ReadKind.TheVariants.{TooLarge, BadForm}
 use Rattle.wasm_code.specs.declared.fault.ReadFault.{ReadFault}
 use Rattle.wasm_code.specs.declared.scope.Scope.{Scope}
 use Rattle.wasm_code.specs.Decoding.{load_at, store_at, numeric_at, opcode_fault}
 use Rattle.wasm_code.specs.Reading.{Reading, ◌>>=◌, fault_at, short_of, ok_or, unsigned_at, u32_at, s32_at, s64_at, count_at, many_at, vector_at}
-use Rattle.wasm_code.specs.Instructions.{type_fault, result_at, zero_at, two_at, control_at, branch_at, variable_at, memory_at, number_at, instr_of, refusal, refused_or, opens_after, is_last, instr_at, instrs_at, expression_at}
+use Rattle.wasm_code.specs.Instructions.{type_fault, result_at, zero_at, two_at, control_at, branch_at, variable_at, memory_at, number_at, instr_of, refusal, refused_or, instr_at}
 use Rattle.wasm_code.proofs.Steps.{bind_ok, guard_ok, pair_is, same_ok}
 use Rattle.wasm_code.specs.FirstFault.{IsNotMended, IsFirst, TellsFirst}
 use Rattle.wasm_code.proofs.FirstSequences.{TakesFront, IsLocal, Reads, bind_err, both, done, mapped}
 use Rattle.wasm_code.proofs.FirstNumbers.{u32_reads, s32_reads, s64_reads}
 
-abbrev fails : {A : Type 0} → ReadFault → Reading A
+abbrev pub fails : {A : Type 0} → ReadFault → Reading A
 fails f = Err f
 
-abbrev gives : {A : Type 0} → A → List ℕ → Reading A
+abbrev pub gives : {A : Type 0} → A → List ℕ → Reading A
 gives x rest = Ok (x, rest)
 
-err_is : {A : Type 0} (d e : ReadFault) → fails {A = A} d ≡ fails e → d ≡ e
+pub err_is : {A : Type 0} (d e : ReadFault) → fails {A = A} d ≡ fails e → d ≡ e
 err_is d e h = cc
 
-ok_not_err : {A P : Type 0} (x : A) (rest : List ℕ) (e : ReadFault) → gives x rest ≡ fails e → P
+pub ok_not_err : {A P : Type 0} (x : A) (rest : List ℕ) (e : ReadFault) → gives x rest ≡ fails e → P
 ok_not_err x rest e h = absurd cc
 
-err_not_ok : {A P : Type 0} (x : A) (rest : List ℕ) (e : ReadFault) → fails e ≡ gives x rest → P
+pub err_not_ok : {A P : Type 0} (x : A) (rest : List ℕ) (e : ReadFault) → fails e ≡ gives x rest → P
 err_not_ok x rest e h = absurd cc
 
 -- ---- counts and vectors
 
-u32_nil : (s : Scope) → u32_at s [] ≡ Err (short_of s)
+pub u32_nil : (s : Scope) → u32_at s [] ≡ Err (short_of s)
 unfolding u32_at unsigned_at
 u32_nil s = refl
 
@@ -114,7 +112,7 @@ vector_reads limit read r = both (count_at limit) (λ n s b. many_at (read s) n 
 -- ---- a choice by a byte
 
 -- what a byte leads to: a fault at the byte, or a reading of what follows it
-abbrev Row : {A : Type 0} → (Scope → List ℕ → Reading A) → ℕ → Type 0
+abbrev pub Row : {A : Type 0} → (Scope → List ℕ → Reading A) → ℕ → Type 0
 Row h byte = ((kind : ReadKind) × ((s : Scope) (rest : List ℕ) → h s rest ≡ Err (fault_at kind s (byte ∷ rest)))) ⊎ Reads h
 
 row_takes : {A : Type 0} (read : Scope → List ℕ → Reading A) (h : Scope → List ℕ → Reading A) (byte : ℕ) → ((s : Scope) (rest : List ℕ) → read s (byte ∷ rest) ≡ h s rest) → Row h byte → (scope : Scope) (bytes rest : List ℕ) (x : A) → read scope (byte ∷ bytes) ≡ Ok (x, rest) → TakesFront read (byte ∷ bytes) x rest
@@ -147,7 +145,7 @@ row_tells read h byte nil same (inr r) scope bytes fault e =
       there = row_there read h byte same scope f.front f.tail fault f.there;
     }
 
-nil_tells : {A : Type 0} (read : Scope → List ℕ → Reading A) → ((s : Scope) → read s [] ≡ Err (short_of s)) → (scope : Scope) (fault : ReadFault) → read scope [] ≡ Err fault → IsFirst read scope [] fault
+pub nil_tells : {A : Type 0} (read : Scope → List ℕ → Reading A) → ((s : Scope) → read s [] ≡ Err (short_of s)) → (scope : Scope) (fault : ReadFault) → read scope [] ≡ Err fault → IsFirst read scope [] fault
 nil_tells read nil scope fault e = record { front = []; tail = []; parts = refl; before = nil; there = inl (refl, sym (err_is (short_of scope) fault (sym (nil scope) ∙ e))) }
 
 byte_takes : {A : Type 0} (read : Scope → List ℕ → Reading A) (h : ℕ → Scope → List ℕ → Reading A) → ((s : Scope) → read s [] ≡ Err (short_of s)) → ((byte : ℕ) (s : Scope) (rest : List ℕ) → read s (byte ∷ rest) ≡ h byte s rest) → ((byte : ℕ) → Row (h byte) byte) → (scope : Scope) (bytes rest : List ℕ) (x : A) → read scope bytes ≡ Ok (x, rest) → TakesFront read bytes x rest
@@ -161,7 +159,7 @@ byte_tells read h nil same rows scope (byte ∷ bytes) fault e = row_tells read 
 pub by_byte : {A : Type 0} (read : Scope → List ℕ → Reading A) (h : ℕ → Scope → List ℕ → Reading A) → ((s : Scope) → read s [] ≡ Err (short_of s)) → ((byte : ℕ) (s : Scope) (rest : List ℕ) → read s (byte ∷ rest) ≡ h byte s rest) → ((byte : ℕ) → Row (h byte) byte) → Reads read
 by_byte read h nil same rows = record { takes = λ scope bytes rest x e. byte_takes read h nil same rows scope bytes rest x e; tells = λ scope bytes fault e. byte_tells read h nil same rows scope bytes fault e }
 
-row_if : {A : Type 0} (t : Bool) (h k : Scope → List ℕ → Reading A) (byte : ℕ) → Row h byte → Row k byte → Row (λ s rest. cond t (h s rest) (k s rest)) byte
+pub row_if : {A : Type 0} (t : Bool) (h k : Scope → List ℕ → Reading A) (byte : ℕ) → Row h byte → Row k byte → Row (λ s rest. cond t (h s rest) (k s rest)) byte
 row_if true h k byte p q = p
 row_if false h k byte p q = q
 
@@ -263,128 +261,6 @@ pub instr_reads : (opens : List Bool) → Reads (instr_at opens)
 unfolding instr_at
 instr_reads opens = by_byte (instr_at opens) (λ code s rest. instr_at opens s (code ∷ rest)) (λ s. refl) (λ code s rest. refl) (λ code. refused_row (refusal opens code) code)
 
-instr_nil : (opens : List Bool) (s : Scope) → instr_at opens s [] ≡ Err (short_of s)
+pub instr_nil : (opens : List Bool) (s : Scope) → instr_at opens s [] ≡ Err (short_of s)
 unfolding instr_at
 instr_nil opens s = refl
-
--- ---- all instructions of an expression
-
-shorter_by : (opens : List Bool) (scope : Scope) (bytes after : List ℕ) (i : Instr) (taken : List ℕ) → bytes ≡ taken ++ after → ((s : Scope) (rest : List ℕ) → instr_at opens s (taken ++ rest) ≡ Ok (i, rest)) → length after < length bytes
-shorter_by opens scope bytes after i [] parts h = err_not_ok i [] (short_of scope) (sym (instr_nil opens scope) ∙ h scope [])
-shorter_by opens scope bytes after i (b ∷ taken) parts h = let same = ap (λ (l : List ℕ). length l) parts in omega (arith, same, length-append taken after)
-
-shorter : (opens : List Bool) (scope : Scope) (bytes after : List ℕ) (i : Instr) → instr_at opens scope bytes ≡ Ok (i, after) → length after < length bytes
-shorter opens scope bytes after i e = let t = (instr_reads opens).takes scope bytes after i e in shorter_by opens scope bytes after i t.0 t.1 t.2
-
-abbrev all_at : List Bool → Scope → List ℕ → Reading (List Instr)
-all_at opens s b = instrs_at (length b) opens s b
-
-result_cases : {A : Type 0} (r : Reading A) → ((x : A × List ℕ) × (r ≡ Ok x)) ⊎ ((e : ReadFault) × (r ≡ Err e))
-result_cases (Ok x) = inl (x, refl)
-result_cases (Err e) = inr (e, refl)
-
-instrs_fail : (most : ℕ) (opens : List Bool) (s : Scope) (bytes : List ℕ) (e : ReadFault) → instr_at opens s bytes ≡ Err e → instrs_at (suc most) opens s bytes ≡ Err e
-unfolding instrs_at
-instrs_fail most opens s bytes e h = rw h refl
-
-instrs_last : (most : ℕ) (opens : List Bool) (s : Scope) (bytes after : List ℕ) (i : Instr) → instr_at opens s bytes ≡ Ok (i, after) → is_last (role_of i) opens ≡ true → instrs_at (suc most) opens s bytes ≡ Ok (i ∷ [], after)
-unfolding instrs_at
-instrs_last most opens s bytes after i h last = rw (h, last) refl
-
-instrs_go : (most : ℕ) (opens : List Bool) (s : Scope) (bytes after : List ℕ) (i : Instr) → instr_at opens s bytes ≡ Ok (i, after) → is_last (role_of i) opens ≡ false → instrs_at (suc most) opens s bytes ≡ (instrs_at most (opens_after (role_of i) opens) s after >>= λ others. Ok (i ∷ others.0, others.1))
-unfolding instrs_at
-instrs_go most opens s bytes after i h goes = rw (h, goes) refl
-
-instrs_none : (opens : List Bool) (s : Scope) (bytes : List ℕ) → instrs_at 0 opens s bytes ≡ Err (short_of s)
-unfolding instrs_at
-instrs_none opens s bytes = refl
-
--- more turns than bytes make no difference
-enough : (m n : ℕ) (opens : List Bool) (s : Scope) (bytes : List ℕ) → length bytes ≤ m → length bytes ≤ n → instrs_at m opens s bytes ≡ instrs_at n opens s bytes
-enough zero zero opens s bytes p q = refl
-enough zero (suc n) opens s [] p q = instrs_none opens s [] ∙ sym (instrs_fail n opens s [] (short_of s) (instr_nil opens s))
-enough zero (suc n) opens s (b ∷ bytes) p q = absurd (omega (arith, p))
-enough (suc m) zero opens s [] p q = instrs_fail m opens s [] (short_of s) (instr_nil opens s) ∙ sym (instrs_none opens s [])
-enough (suc m) zero opens s (b ∷ bytes) p q = absurd (omega (arith, q))
-enough (suc m) (suc n) opens s bytes p q =
-    elim (result_cases (instr_at opens s bytes)) [
-      | inl ok ↦
-          elim (cases_Bool (is_last (role_of ok.0.0) opens)) [
-            | inl last ↦ instrs_last m opens s bytes ok.0.1 ok.0.0 ok.1 last ∙ sym (instrs_last n opens s bytes ok.0.1 ok.0.0 ok.1 last)
-            | inr goes ↦
-                (let less = shorter opens s bytes ok.0.1 ok.0.0 ok.1 in
-                let inner = enough m n (opens_after (role_of ok.0.0) opens) s ok.0.1 (omega (arith, less, p)) (omega (arith, less, q)) in
-                let wrap : Reading (List Instr) → Reading (List Instr) = λ r. r >>= λ others. Ok (ok.0.0 ∷ others.0, others.1) in
-                instrs_go m opens s bytes ok.0.1 ok.0.0 ok.1 goes ∙ ap wrap inner ∙ sym (instrs_go n opens s bytes ok.0.1 ok.0.0 ok.1 goes))
-          ]
-      | inr err ↦ instrs_fail m opens s bytes err.0 err.1 ∙ sym (instrs_fail n opens s bytes err.0 err.1)
-    ]
-
-all_fail : (opens : List Bool) (s : Scope) (bytes : List ℕ) (e : ReadFault) → instr_at opens s bytes ≡ Err e → all_at opens s bytes ≡ Err e
-all_fail opens s [] e h = instrs_none opens s [] ∙ ap (λ (d : ReadFault). fails {A = List Instr} d) (err_is (short_of s) e (sym (instr_nil opens s) ∙ h))
-all_fail opens s (b ∷ bytes) e h = instrs_fail (length bytes) opens s (b ∷ bytes) e h
-
-all_go : (opens : List Bool) (s : Scope) (bytes after : List ℕ) (i : Instr) → instr_at opens s bytes ≡ Ok (i, after) → is_last (role_of i) opens ≡ false → all_at opens s bytes ≡ (all_at (opens_after (role_of i) opens) s after >>= λ others. Ok (i ∷ others.0, others.1))
-all_go opens s bytes after i h goes =
-    let less = shorter opens s bytes after i h in
-    let most = length bytes - 1 in
-    let k : length bytes ≡ suc most = omega (arith, less) in
-    let inner = enough most (length after) (opens_after (role_of i) opens) s after (omega (arith, less)) (omega arith) in
-    let wrap : Reading (List Instr) → Reading (List Instr) = λ r. r >>= λ others. Ok (i ∷ others.0, others.1) in
-    ap (λ (n : ℕ). instrs_at n opens s bytes) k ∙ instrs_go most opens s bytes after i h goes ∙ ap wrap inner
-
-all_there : (opens : List Bool) (scope : Scope) (front tail : List ℕ) (fault : ReadFault)
-    → (((tail ≡ []) × (fault ≡ short_of scope)) ⊎ ((kind : ReadKind) × (fault ≡ fault_at kind scope tail) × IsNotMended (instr_at opens) kind front tail))
-    → (((tail ≡ []) × (fault ≡ short_of scope)) ⊎ ((kind : ReadKind) × (fault ≡ fault_at kind scope tail) × IsNotMended (all_at opens) kind front tail))
-all_there opens scope front tail fault (inl cut) = inl cut
-all_there opens scope front tail fault (inr told) = inr (told.0, told.1, λ s more. all_fail opens s (front ++ (tail ++ more)) (fault_at told.0 s (tail ++ more)) (told.2 s more))
-
-abbrev wrap_err : Instr → Reading (List Instr) → Reading (List Instr)
-wrap_err i r = r >>= λ others. Ok (i ∷ others.0, others.1)
-
-behind_err : (opens : List Bool) (i : Instr) (taken : List ℕ) → ((s : Scope) (after : List ℕ) → instr_at opens s (taken ++ after) ≡ Ok (i, after)) → is_last (role_of i) opens ≡ false → (s : Scope) (front : List ℕ) (e : ReadFault) → all_at (opens_after (role_of i) opens) s front ≡ Err e → all_at opens s (taken ++ front) ≡ Err e
-behind_err opens i taken h goes s front e inner = all_go opens s (taken ++ front) front i (h s front) goes ∙ ap (wrap_err i) inner
-
-behind_there : (opens : List Bool) (i : Instr) (taken : List ℕ) → ((s : Scope) (after : List ℕ) → instr_at opens s (taken ++ after) ≡ Ok (i, after)) → is_last (role_of i) opens ≡ false → (scope : Scope) (front tail : List ℕ) (fault : ReadFault)
-    → (((tail ≡ []) × (fault ≡ short_of scope)) ⊎ ((kind : ReadKind) × (fault ≡ fault_at kind scope tail) × IsNotMended (all_at (opens_after (role_of i) opens)) kind front tail))
-    → (((tail ≡ []) × (fault ≡ short_of scope)) ⊎ ((kind : ReadKind) × (fault ≡ fault_at kind scope tail) × IsNotMended (all_at opens) kind (taken ++ front) tail))
-behind_there opens i taken h goes scope front tail fault (inl cut) = inl cut
-behind_there opens i taken h goes scope front tail fault (inr told) = inr (told.0, told.1, λ s more. ap (all_at opens s) (append_assoc taken front (tail ++ more)) ∙ behind_err opens i taken h goes s (front ++ (tail ++ more)) (fault_at told.0 s (tail ++ more)) (told.2 s more))
-
-list_not_err : {P : Type 0} (x : List Instr) (rest : List ℕ) (e : ReadFault) → (let r : Reading (List Instr) = Ok (x, rest) in r) ≡ Err e → P
-list_not_err x rest e h = absurd cc
-
-all_tell : (most : ℕ) (opens : List Bool) (scope : Scope) (bytes : List ℕ) (fault : ReadFault) → length bytes ≤ most → all_at opens scope bytes ≡ Err fault → IsFirst (all_at opens) scope bytes fault
-all_tell most opens scope [] fault few e = nil_tells (all_at opens) (λ s. instrs_none opens s []) scope fault e
-all_tell zero opens scope (b ∷ bytes) fault few e = absurd (omega (arith, few))
-all_tell (suc most) opens scope (b ∷ bytes) fault few e =
-    let whole = b ∷ bytes in
-    elim (result_cases (instr_at opens scope whole)) [
-      | inr err ↦
-          (let same : err.0 ≡ fault = err_is err.0 fault (sym (all_fail opens scope whole err.0 err.1) ∙ e) in
-          let f = (instr_reads opens).tells scope whole fault (err.1 ∙ ap (λ (d : ReadFault). fails {A = Instr} d) same) in
-          record { front = f.front; tail = f.tail; parts = f.parts; before = λ s. all_fail opens s f.front (short_of s) (f.before s); there = all_there opens scope f.front f.tail fault f.there })
-      | inl ok ↦
-          elim (cases_Bool (is_last (role_of ok.0.0) opens)) [
-            | inl last ↦ list_not_err (ok.0.0 ∷ []) ok.0.1 fault (sym (instrs_last (length bytes) opens scope whole ok.0.1 ok.0.0 ok.1 last) ∙ e)
-            | inr goes ↦
-                elim (bind_err (all_at (opens_after (role_of ok.0.0) opens) scope ok.0.1) (λ others. Ok (ok.0.0 ∷ others.0, others.1)) fault (sym (all_go opens scope whole ok.0.1 ok.0.0 ok.1 goes) ∙ e)) [
-                  | inr there ↦ list_not_err (ok.0.0 ∷ there.0.0) there.0.1 fault there.2
-                  | inl inner ↦
-                      (let less = shorter opens scope whole ok.0.1 ok.0.0 ok.1 in
-                      let t = (instr_reads opens).takes scope whole ok.0.1 ok.0.0 ok.1 in
-                      let f = all_tell most (opens_after (role_of ok.0.0) opens) scope ok.0.1 fault (omega (arith, less, few)) inner in
-                      record {
-                        front = t.0 ++ f.front;
-                        tail = f.tail;
-                        parts = t.1 ∙ ap (λ (r : List ℕ). t.0 ++ r) f.parts ∙ sym (append_assoc t.0 f.front f.tail);
-                        before = λ s. behind_err opens ok.0.0 t.0 t.2 goes s f.front (short_of s) (f.before s);
-                        there = behind_there opens ok.0.0 t.0 t.2 goes scope f.front f.tail fault f.there;
-                      })
-                ]
-          ]
-    ]
-
-pub expression_tells : TellsFirst expression_at
-unfolding expression_at
-expression_tells scope bytes fault e = all_tell (length bytes) [] scope bytes fault (omega arith) e

@@ -1,4 +1,4 @@
--- Numbers, vectors, instructions and expressions tell their first fault.
+-- Numbers tell their first fault.
 use Rattle.std.proofs.Common.{◌≡◌, ℕ, ◌+◌, ◌-◌, ◌/◌, ◌*◌, true, false, cond, ltb, List, [], ◌∷◌, ◌++◌, Option, Some, None, Ok, Err, refl, sym, ap, ◌∙◌, ◌⊎◌, inl, inr}
 use Rattle.std.proofs.lemmas.Bool.{cases_Bool}
 use Rattle.std.proofs.lemmas.List.{append-nil}
@@ -14,7 +14,7 @@ use Rattle.wasm_code.proofs.FirstSequences.{Reads, bind_err}
 abbrev NumberTakes : (ReadFault → ReadFault → List ℕ → Reading ℕ) → List ℕ → ℕ → List ℕ → Type 0
 NumberTakes read bytes n rest = (taken : List ℕ) × (bytes ≡ taken ++ rest) × ((bad short : ReadFault) (after : List ℕ) → read bad short (taken ++ after) ≡ Ok (n, after))
 
-abbrev NumberFails : (ReadFault → ReadFault → List ℕ → Reading ℕ) → List ℕ → ReadFault → ReadFault → ReadFault → Type 0
+abbrev pub NumberFails : (ReadFault → ReadFault → List ℕ → Reading ℕ) → List ℕ → ReadFault → ReadFault → ReadFault → Type 0
 NumberFails read bytes bad short fault = ((fault ≡ bad) × ((b s : ReadFault) (more : List ℕ) → read b s (bytes ++ more) ≡ Err b)) ⊎ ((fault ≡ short) × ((b s : ReadFault) → read b s bytes ≡ Err s))
 
 fails : ReadFault → Reading ℕ
@@ -90,7 +90,7 @@ unsigned_takes bad short limit (b ∷ bytes) rest n e =
       | inr high ↦ unsigned_high bad short limit b bytes rest n high (rw high at e) (λ r m h. unsigned_takes bad short (limit / 128) bytes r m h)
     ]
 
-unsigned_fails : (bad short : ReadFault) (limit : ℕ) (bytes : List ℕ) (fault : ReadFault) → unsigned_at bad short limit bytes ≡ Err fault → NumberFails (λ b s l. unsigned_at b s limit l) bytes bad short fault
+pub unsigned_fails : (bad short : ReadFault) (limit : ℕ) (bytes : List ℕ) (fault : ReadFault) → unsigned_at bad short limit bytes ≡ Err fault → NumberFails (λ b s l. unsigned_at b s limit l) bytes bad short fault
 unfolding unsigned_at fails
 unsigned_fails bad short limit [] fault e = inr (err_is short fault e, λ b s. refl)
 unsigned_fails bad short limit (b ∷ bytes) fault e =

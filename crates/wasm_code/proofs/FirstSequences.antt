@@ -1,4 +1,4 @@
--- Readings tell their first fault: numbers, sequences, choices by a byte, instructions and expressions.
+-- Readings one behind the other tell their first fault.
 use Rattle.std.proofs.Common.{◌≡◌, ℕ, List, [], ◌++◌, Result, Ok, Err, refl, sym, ap, ◌∙◌, ◌⊎◌, inl, inr, append_assoc}
 use Rattle.wasm_code.specs.declared.fault.ReadKind.{ReadKind}
 use Rattle.wasm_code.specs.declared.fault.ReadFault.{ReadFault}

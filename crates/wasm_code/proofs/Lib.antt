@@ -9,3 +9,4 @@ pub mod CodeLaws
 pub mod FirstSequences
 pub mod FirstNumbers
 pub mod FirstInstructions
+pub mod FirstExpressions

@@ -1,8 +1,10 @@
-ghost use Rattle.std.specs.Prelude.{◌≡◌, ◌+◌, ◌≤◌, List, ℕ, Ok, IfOk, length, slice_range};
+ghost use Rattle.std.specs.Prelude.{◌≡◌, ◌⊎◌, ◌+◌, ◌≤◌, List, ℕ, Ok, IfOk, IfErr, length, slice_range};
 ghost use Rattle.wasm_types.specs.declared.instructions.Instr.{Instr};
 ghost use Rattle.wasm_code.specs.Grammar.{IsExpression};
-ghost use Rattle.wasm_code.specs.Reading.{Answers};
-ghost use Rattle.wasm_code.specs.Instructions.{code_at};
+ghost use Rattle.wasm_code.specs.declared.fault.ReadKind.TheVariants as kinds;
+ghost use Rattle.wasm_code.specs.Reading.{Answers, no_memory};
+ghost use Rattle.wasm_code.specs.Instructions.{expression_at, code_at};
+ghost use Rattle.wasm_code.specs.FirstFault.{IsFirst};
 
 use crate::expressions::read_expression;
 use crate::fault::{ReadFault, ReadKind, told_of};
@@ -53,6 +55,9 @@ pub fn read_code(
 
     // Which fault it is.
     ensures exact { Answers (λ x. (x.0.items, x.1)) result (code_at place until bytes.now) }
+
+    // The fault is the first one: nothing is wrong before its place, and nothing that follows mends it.
+    ensures first { IfErr result (λ fault. (fault ≡ no_memory) ⊎ IsFirst expression_at (record { end = until; short = kinds.SectionSize }) (slice_range bytes.now place until) fault) }
 {
     code_from(alloc, bytes, place, until)
 }

@@ -51,6 +51,7 @@ fn faults(rt: HostRuntime) {
         (&[0, 0x02, 0x40, 0x0B], Some((SectionSize, 4))),
     ];
     for (bytes, wanted) in cases {
-        assert!(rt; fault_of(&rt, bytes) == wanted, "{bytes:?}");
+        let found = fault_of(&rt, bytes);
+        assert!(rt; found == wanted, "{bytes:?} gives {found:?}");
     }
 }

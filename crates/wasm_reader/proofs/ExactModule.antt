@@ -18,7 +18,8 @@ use Rattle.wasm_code.specs.Reading.{◌>>=◌, fault_at, u32_at, vector_at}
 use Rattle.wasm_code.proofs.Steps.{bind_ok, needs_ok, guard_ok, ok_is}
 use Rattle.wasm_code.proofs.ExactNumbers.{u32_exact, vector_exact}
 use Rattle.wasm_reader.specs.Grammar.{IsList, IsFuncType, IsImport, IsTable, IsMemory, IsGlobal, IsExport, IsStart, IsElement, AreCode, IsSegment, Ends, AreSections, IsModule}
-use Rattle.wasm_reader.specs.Reading.{func_type_at, import_at, table_at, memory_at, global_at, export_at, start_at, element_at, code_section_at, segment_at, customs_at, magic_at, version_at, ended_at, end_at, sections_at, whole_at, module_at}
+use Rattle.wasm_reader.specs.Reading.{func_type_at, import_at, table_at, memory_at, global_at, export_at, start_at, element_at, segment_at}
+use Rattle.wasm_reader.specs.Sections.{code_section_at, customs_at, magic_at, version_at, ended_at, end_at, sections_at, whole_at, module_at}
 use Rattle.wasm_reader.proofs.ExactParts.{func_type_exact, import_exact, table_exact, memory_exact, global_exact, export_exact, start_exact, element_exact, segment_exact}
 use Rattle.wasm_reader.proofs.ExactSections.{code_exact, skipped, skips, skips_again, IsAbove, IsTail, Chain, chain_at, chain_tail}
 

@@ -18,7 +18,8 @@ use Rattle.wasm_code.proofs.ExactNumbers.{u32_exact, count_exact}
 use Rattle.wasm_code.proofs.ExactInstructions.{value_type_exact}
 use Rattle.wasm_code.proofs.ExactExpressions.{expression_exact, u32_takes}
 use Rattle.wasm_reader.specs.Grammar.{AreBytes, IsName, IsSized, Group, IsGroup, locals_of, params_of, IsBody, AreBodies, AreCode, IsCustom, AreCustoms, IsOptional, Section}
-use Rattle.wasm_reader.specs.Reading.{name_at, Inside, open_at, close_at, sized_at, is_bad_leb, crowded, crowded_at, groups_at, locals_from, locals_at, body_at, bodies_at, code_section_at, custom_at, next_custom_at, customs_from, customs_at, optional_at, section_at}
+use Rattle.wasm_reader.specs.Reading.{name_at}
+use Rattle.wasm_reader.specs.Sections.{Inside, open_at, close_at, sized_at, is_bad_leb, crowded, crowded_at, groups_at, locals_from, locals_at, body_at, bodies_at, code_section_at, custom_at, next_custom_at, customs_from, customs_at, optional_at, section_at}
 use Rattle.wasm_reader.proofs.ExactParts.{cut_is, cut_again, name_exact}
 use Rattle.wasm_reader.proofs.Loops.{customs_go, customs_stop}
 
@@ -104,7 +105,7 @@ unfolding groups_at crowded_at
 groups_sound params scope [] rest n e = absurd cc
 groups_sound params scope (b ∷ bytes) rest n e =
     elim (cases_Bool (ltb 4096 params)) [
-      | inl t ↦ crowded_never (fault_at TooLarge scope (b ∷ bytes)) (u32_at scope (b ∷ bytes)) (n, rest) ((params ≤ 4096) × IsU32 (b ∷ bytes) n rest) (rw t at e)
+      | inl t ↦ crowded_never (fault_at TooLarge scope (b ∷ bytes)) (u32_at (record { end = scope.end; short = TooLarge }) (b ∷ bytes)) (n, rest) ((params ≤ 4096) × IsU32 (b ∷ bytes) n rest) (rw t at e)
       | inr f ↦ (ltb-false 4096 params f, (u32_exact scope).sound (b ∷ bytes) rest n (rw f at e))
     ]
 
@@ -233,10 +234,10 @@ custom_complete scope bytes inside name mid after h n =
     let closed = close_complete scope inside after in
     rw (opened, named) closed
 
-abbrev found : Option (List ℕ) → Result (Option (List ℕ)) ReadFault
+abbrev pub found : Option (List ℕ) → Result (Option (List ℕ)) ReadFault
 found o = Ok o
 
-next_some : (scope : Scope) (bytes after : List ℕ) → next_custom_at scope bytes ≡ found (Some after) → IsCustom bytes after
+pub next_some : (scope : Scope) (bytes after : List ℕ) → next_custom_at scope bytes ≡ found (Some after) → IsCustom bytes after
 unfolding next_custom_at
 next_some scope [] after e = absurd cc
 next_some scope (id ∷ bytes) after e =
@@ -273,7 +274,7 @@ unfolding next_custom_at
 next_not scope [] h = refl
 next_not scope (id ∷ bytes) h = let t = ne_eqb id 0 h in rw t refl
 
-custom_takes : (bytes after : List ℕ) → IsCustom bytes after → length after < length bytes
+pub custom_takes : (bytes after : List ℕ) → IsCustom bytes after → length after < length bytes
 custom_takes bytes after h =
     let same = ap (λ (l : List ℕ). length l) h.4 in
     let size = u32_takes h.0 (h.1 ++ after) (length h.1) h.5 in

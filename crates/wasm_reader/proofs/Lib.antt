@@ -4,3 +4,11 @@ pub mod ExactParts
 pub mod ExactSections
 pub mod ExactModule
 pub mod ModuleLaws
+pub mod FirstParts
+pub mod FirstCarried
+pub mod FirstContent
+pub mod FirstSized
+pub mod FirstCode
+pub mod FirstCustoms
+pub mod FirstSections
+pub mod FirstModule

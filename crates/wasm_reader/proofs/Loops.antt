@@ -11,7 +11,7 @@ use Rattle.wasm_code.specs.Reading.{Reading, Fails, count_at}
 use Rattle.wasm_code.specs.Instructions.{value_type_at}
 use Rattle.wasm_code.proofs.Loop.{with_front, regroup}
 use Rattle.wasm_reader.specs.Grammar.{params_of}
-use Rattle.wasm_reader.specs.Reading.{next_custom_at, customs_from, locals_from, sized_at, body_at, bodies_at}
+use Rattle.wasm_reader.specs.Sections.{next_custom_at, customs_from, locals_from, sized_at, body_at, bodies_at}
 
 -- ---- custom sections
 

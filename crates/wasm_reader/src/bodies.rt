@@ -3,7 +3,7 @@
 ghost use Rattle.std.specs.Prelude.{◌≡◌, ◌++◌, OnOk, List, [], replicate, length};
 ghost use Rattle.wasm_code.specs.Reading.{Gives, Fails};
 ghost use Rattle.wasm_reader.specs.Grammar.{params_of};
-ghost use Rattle.wasm_reader.specs.Reading.{is_bad_leb, crowded_at, groups_at, locals_from, locals_at, body_at, bodies_at, code_section_at};
+ghost use Rattle.wasm_reader.specs.Sections.{is_bad_leb, crowded_at, groups_at, locals_from, locals_at, body_at, bodies_at, code_section_at};
 
 use crate::sections::read_sized;
 use std::alloc::{AllocError, Global};
@@ -20,11 +20,15 @@ fn is_bad_leb(kind: ReadKind) -> bool
 }
 
 // What stops reading where there are more parameters than locals may be: the count of groups, if it is wrong itself.
-#[tactic(auto, unfolding(crate::specs::Reading::crowded_at))]
+#[tactic(auto, unfolding(crate::specs::Sections::crowded_at))]
 fn crowded(scope: Scope, bytes: &[u8]) -> Stop
     ensures { Fails result (crowded_at scope bytes.now) }
 {
-    match read_u32(scope, bytes) {
+    let cut = Scope {
+        end: scope.end,
+        short: ReadKind::TooLarge,
+    };
+    match read_u32(cut, bytes) {
         Ok(_) => Stop::Fault(fault_at(ReadKind::TooLarge, scope, bytes)),
         Err(Stop::Memory) => Stop::Memory,
         Err(Stop::Fault(fault)) => {
@@ -37,7 +41,7 @@ fn crowded(scope: Scope, bytes: &[u8]) -> Stop
 }
 
 // The count of groups of locals.
-#[tactic(auto, unfolding(crate::specs::Reading::groups_at))]
+#[tactic(auto, unfolding(crate::specs::Sections::groups_at))]
 fn read_groups(params: usize, scope: Scope, bytes: &[u8]) -> Result<(u32, &[u8]), Stop>
     ensures { Gives (λ x. (x.0, x.1.now)) result (groups_at params scope bytes.now) }
 {
@@ -84,7 +88,7 @@ fn read_all_groups(
     Ok((locals, rest))
 }
 
-#[tactic(auto, unfolding(crate::specs::Reading::locals_at))]
+#[tactic(auto, unfolding(crate::specs::Sections::locals_at))]
 fn read_locals(
     alloc: Global,
     params: usize,
@@ -97,7 +101,7 @@ fn read_locals(
     read_all_groups(alloc, params, count, scope, rest)
 }
 
-#[tactic(auto, unfolding(crate::specs::Reading::body_at))]
+#[tactic(auto, unfolding(crate::specs::Sections::body_at))]
 fn read_body(
     alloc: Global,
     params: usize,
@@ -180,7 +184,7 @@ pub(crate) struct Bodies<'b> {
     pub functions: &'b [u32],
 }
 
-#[tactic(auto, unfolding(crate::specs::Reading::code_section_at))]
+#[tactic(auto, unfolding(crate::specs::Sections::code_section_at))]
 fn read_code_section<'a>(
     alloc: Global,
     types: &[FuncType],

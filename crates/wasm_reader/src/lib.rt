@@ -6,12 +6,14 @@
 #![tactic(auto)]
 
 mod bodies;
+mod laws;
 mod module;
 mod names;
 mod parts;
 mod sections;
 mod types;
 
+pub use laws::{parts_tell_first, sections_tell_first};
 pub use module::read_module;
 pub use wasm_code::{ReadFault, ReadKind};
 

@@ -1,10 +1,11 @@
 //! Modules (section 5.5.15).
 
-ghost use Rattle.std.specs.Prelude.{◌≡◌, IfOk, Ok, []};
+ghost use Rattle.std.specs.Prelude.{◌≡◌, ◌⊎◌, IfOk, IfErr, Ok, []};
 ghost use Rattle.wasm_types.specs.declared.modules.Module.{Module};
-ghost use Rattle.wasm_code.specs.Reading.{Gives, Answers, vector_at};
+ghost use Rattle.wasm_code.specs.Reading.{Gives, Answers, no_memory, vector_at};
 ghost use Rattle.wasm_reader.specs.Grammar.{IsModule};
-ghost use Rattle.wasm_reader.specs.Reading.{magic_at, version_at, ended_at, end_at, section_at, sections_at, whole_at, module_at};
+ghost use Rattle.wasm_reader.specs.FirstFault.{IsFirstFault};
+ghost use Rattle.wasm_reader.specs.Sections.{magic_at, version_at, ended_at, end_at, section_at, sections_at, whole_at, module_at};
 
 use crate::bodies::Bodies;
 use crate::parts::{Elements, Exports, Globals, Imports, Segments, Start};
@@ -17,7 +18,7 @@ use wasm_code::{
 use wasm_types::{Items, Module};
 
 // What follows the four bytes of the magic.
-#[tactic(auto, unfolding(crate::specs::Reading::magic_at))]
+#[tactic(auto, unfolding(crate::specs::Sections::magic_at))]
 fn read_magic(scope: Scope, bytes: &[u8]) -> Result<&[u8], Stop>
     ensures { Gives (λ x. x.now) result (magic_at scope bytes.now) }
 {
@@ -33,7 +34,7 @@ fn read_magic(scope: Scope, bytes: &[u8]) -> Result<&[u8], Stop>
 }
 
 // What follows the four bytes of the version.
-#[tactic(auto, unfolding(crate::specs::Reading::version_at))]
+#[tactic(auto, unfolding(crate::specs::Sections::version_at))]
 fn read_version(scope: Scope, bytes: &[u8]) -> Result<&[u8], Stop>
     ensures { Gives (λ x. x.now) result (version_at scope bytes.now) }
 {
@@ -49,7 +50,7 @@ fn read_version(scope: Scope, bytes: &[u8]) -> Result<&[u8], Stop>
 }
 
 // The module, if nothing follows its last section and its counts agree.
-#[tactic(auto, unfolding(crate::specs::Reading::ended_at))]
+#[tactic(auto, unfolding(crate::specs::Sections::ended_at))]
 fn ended(scope: Scope, whole: Module, bytes: &[u8]) -> Result<Module, Stop>
     ensures { Gives (λ m. m) result (ended_at scope whole bytes.now) }
 {
@@ -64,7 +65,7 @@ fn ended(scope: Scope, whole: Module, bytes: &[u8]) -> Result<Module, Stop>
     }
 }
 
-#[tactic(auto, unfolding(crate::specs::Reading::end_at))]
+#[tactic(auto, unfolding(crate::specs::Sections::end_at))]
 fn read_end(scope: Scope, whole: Module, bytes: &[u8]) -> Result<Module, Stop>
     ensures { Gives (λ m. m) result (end_at scope whole bytes.now) }
 {
@@ -88,7 +89,7 @@ fn read_list<'a, F: Field + Drop>(
 }
 
 // The sections of a module, and its end.
-#[tactic(auto, unfolding(crate::specs::Reading::sections_at))]
+#[tactic(auto, unfolding(crate::specs::Sections::sections_at))]
 fn read_sections(alloc: Global, scope: Scope, bytes: &[u8]) -> Result<Module, Stop>
     ensures { Gives (λ m. m) result (sections_at scope bytes.now) }
 {
@@ -124,7 +125,7 @@ fn read_sections(alloc: Global, scope: Scope, bytes: &[u8]) -> Result<Module, St
 }
 
 // The module that all of the bytes spell.
-#[tactic(auto, unfolding(crate::specs::Reading::module_at))]
+#[tactic(auto, unfolding(crate::specs::Sections::module_at))]
 fn read_all(alloc: Global, bytes: &[u8]) -> Result<Module, ReadFault>
     ensures { Answers (λ m. m) result (module_at bytes.now) }
 {
@@ -145,7 +146,7 @@ fn read_all(alloc: Global, bytes: &[u8]) -> Result<Module, ReadFault>
 }
 
 // The header and the sections.
-#[tactic(auto, unfolding(crate::specs::Reading::whole_at))]
+#[tactic(auto, unfolding(crate::specs::Sections::whole_at))]
 fn read_whole(alloc: Global, scope: Scope, bytes: &[u8]) -> Result<Module, Stop>
     ensures { Gives (λ m. m) result (whole_at scope bytes.now) }
 {
@@ -164,6 +165,10 @@ pub fn read_module(alloc: Global, bytes: &[u8]) -> Result<Module, ReadFault>
 
     // Which fault it is.
     ensures exact { Answers (λ m. m) result (module_at bytes.now) }
+
+    // The fault is the first one: nothing is wrong before its place, and nothing that follows mends it, with the
+    // exceptions that are named there.
+    ensures first { IfErr result (λ fault. (fault ≡ no_memory) ⊎ IsFirstFault bytes.now fault) }
 {
     read_all(alloc, bytes)
 }

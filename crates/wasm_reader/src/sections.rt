@@ -3,7 +3,7 @@
 ghost use Rattle.std.specs.Prelude.{◌≡◌};
 ghost use Rattle.std.specs.Option.{option_map};
 ghost use Rattle.wasm_code.specs.Reading.{Gives};
-ghost use Rattle.wasm_reader.specs.Reading.{open_at, close_at, sized_at, custom_at, next_custom_at, customs_at, optional_at, section_at};
+ghost use Rattle.wasm_reader.specs.Sections.{open_at, close_at, sized_at, custom_at, next_custom_at, customs_at, optional_at, section_at};
 ghost use Rattle.wasm_reader.specs.Parts.{inside_of};
 
 use crate::names::name_of;
@@ -20,7 +20,7 @@ struct Part<'a> {
     whole: bool,
 }
 
-#[tactic(auto, unfolding(crate::specs::Reading::open_at))]
+#[tactic(auto, unfolding(crate::specs::Sections::open_at))]
 fn open_part(scope: Scope, bytes: &[u8]) -> Result<Part<'_>, Stop>
     ensures { Gives (λ x. inside_of x) result (open_at scope bytes.now) }
 {
@@ -49,7 +49,7 @@ fn open_part(scope: Scope, bytes: &[u8]) -> Result<Part<'_>, Stop>
 }
 
 // What follows the part, if the content has ended where it does.
-#[tactic(auto, unfolding(crate::specs::Reading::close_at))]
+#[tactic(auto, unfolding(crate::specs::Sections::close_at))]
 fn close_part<'a>(part: &Part<'a>, rest: &[u8]) -> Result<&'a [u8], Stop>
     ensures { Gives (λ x. x.now) result (close_at (inside_of part.now) rest.now) }
 {
@@ -65,7 +65,7 @@ fn close_part<'a>(part: &Part<'a>, rest: &[u8]) -> Result<&'a [u8], Stop>
 }
 
 /// A size, and so many bytes that hold the value.
-#[tactic(auto, unfolding(crate::specs::Reading::sized_at))]
+#[tactic(auto, unfolding(crate::specs::Sections::sized_at))]
 pub(crate) fn read_sized<'a, F: Field>(
     content: &F,
     alloc: Global,
@@ -81,7 +81,7 @@ pub(crate) fn read_sized<'a, F: Field>(
 }
 
 // What follows a custom section behind its number.
-#[tactic(auto, unfolding(crate::specs::Reading::custom_at))]
+#[tactic(auto, unfolding(crate::specs::Sections::custom_at))]
 fn skip_custom(scope: Scope, bytes: &[u8]) -> Result<&[u8], Stop>
     ensures { Gives (λ x. x.now) result (custom_at scope bytes.now) }
 {
@@ -91,7 +91,7 @@ fn skip_custom(scope: Scope, bytes: &[u8]) -> Result<&[u8], Stop>
 }
 
 // What follows the custom section that stands here, if one does.
-#[tactic(auto, unfolding(crate::specs::Reading::next_custom_at))]
+#[tactic(auto, unfolding(crate::specs::Sections::next_custom_at))]
 fn next_custom(scope: Scope, bytes: &[u8]) -> Result<Option<&[u8]>, Stop>
     ensures { Gives (λ x. option_map (λ s. s.now) x) result (next_custom_at scope bytes.now) }
 {
@@ -120,7 +120,7 @@ pub(crate) fn skip_customs(scope: Scope, bytes: &[u8]) -> Result<&[u8], Stop>
     Ok(rest)
 }
 
-#[tactic(auto, unfolding(crate::specs::Reading::optional_at))]
+#[tactic(auto, unfolding(crate::specs::Sections::optional_at))]
 fn read_optional<'a, F: Field>(
     id: u8,
     none: F::Item,
@@ -143,7 +143,7 @@ fn read_optional<'a, F: Field>(
 }
 
 /// Custom sections, and then the section with this number, if it stands there.
-#[tactic(auto, unfolding(crate::specs::Reading::section_at))]
+#[tactic(auto, unfolding(crate::specs::Sections::section_at))]
 pub(crate) fn read_section<'a, F: Field>(
     id: u8,
     none: F::Item,

@@ -69,7 +69,7 @@ fn each_cut_of_a_module(rt: HostRuntime) {
             18 | 30 => (Some(ReadKind::CountMismatch), len as u32),
             _ => (Some(ReadKind::Truncated), len as u32),
         };
-        assert!(rt; found == wanted, "cut to {len}");
+        assert!(rt; found == wanted, "cut to {len} gives {found:?}");
     }
     assert!(rt; fault_of(&read_module(rt.alloc(), &SMALL)) == (None, 0));
 }
@@ -166,7 +166,7 @@ fn faults_and_their_places(rt: HostRuntime) -> Result<(), Fail> {
     ];
     for (from, bytes, wanted) in cases {
         let found = with_bytes(&rt, from, bytes)?;
-        assert!(rt; found == wanted, "{bytes:?}");
+        assert!(rt; found == wanted, "{bytes:?} gives {found:?}");
     }
     Ok(())
 }

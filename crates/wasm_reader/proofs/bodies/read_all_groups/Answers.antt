@@ -1,6 +1,6 @@
 use Rattle.std.proofs.Common.{◌≡◌, suc, ◌+◌, ◌-◌, [], length, sym, ◌∙◌, arith}
 use Rattle.std.proofs.lemmas.Result.{err_from_is_err_and}
-use Rattle.wasm_reader.specs.Reading.{locals_from}
+use Rattle.wasm_reader.specs.Sections.{locals_from}
 use Rattle.wasm_reader.proofs.Loops.{locals_go, locals_no_count, locals_no_kind, locals_done}
 use Rattle.wasm_reader.proofs.bodies.read_all_groups.Goals as goal
 

@@ -1,5 +1,5 @@
 use Rattle.std.proofs.Common.{◌≡◌, ◌-◌, []}
-use Rattle.wasm_reader.specs.Reading.{locals_from}
+use Rattle.wasm_reader.specs.Sections.{locals_from}
 use Rattle.wasm_reader.proofs.bodies.read_all_groups.Given as goal
 
 abbrev pub invariant-loop : goal.invariant-loop

@@ -2,7 +2,7 @@ use Rattle.std.proofs.Common.{◌≡◌, suc, ◌+◌, ◌-◌, ◌++◌, [], re
 use Rattle.std.proofs.lemmas.Result.{err_from_is_err_and}
 use Rattle.std.proofs.lemmas.List.{append-nil}
 use Rattle.wasm_code.proofs.Steps.{same_ok}
-use Rattle.wasm_reader.specs.Reading.{bodies_at}
+use Rattle.wasm_reader.specs.Sections.{bodies_at}
 use Rattle.wasm_reader.proofs.Loops.{bodies_go, bodies_fail, bodies_done}
 use Rattle.wasm_reader.proofs.bodies.read_bodies.Goals as goal
 

@@ -1,6 +1,6 @@
 use Rattle.std.proofs.Common.{◌≡◌, ◌-◌}
 use Rattle.wasm_code.proofs.Loop.{with_front}
-use Rattle.wasm_reader.specs.Reading.{bodies_at}
+use Rattle.wasm_reader.specs.Sections.{bodies_at}
 use Rattle.wasm_reader.proofs.bodies.read_bodies.Given as goal
 
 abbrev pub invariant-loop-index : goal.invariant-loop-index

@@ -1,6 +1,6 @@
 use Rattle.std.proofs.Common.{◌≡◌, suc, ◌+◌, ◌-◌, length, refl, sym, ◌∙◌, arith}
 use Rattle.std.proofs.lemmas.Result.{err_from_is_err_and}
-use Rattle.wasm_reader.specs.Reading.{customs_at}
+use Rattle.wasm_reader.specs.Sections.{customs_at}
 use Rattle.wasm_reader.proofs.Loops.{customs_go, customs_stop, customs_fail, customs_done}
 use Rattle.wasm_reader.proofs.sections.skip_customs.Goals as goal
 

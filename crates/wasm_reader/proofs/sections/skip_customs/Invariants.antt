@@ -1,5 +1,5 @@
 use Rattle.std.proofs.Common.{◌≡◌, ◌-◌, length}
-use Rattle.wasm_reader.specs.Reading.{customs_from, customs_at}
+use Rattle.wasm_reader.specs.Sections.{customs_from, customs_at}
 use Rattle.wasm_reader.proofs.sections.skip_customs.Given as goal
 
 abbrev pub invariant-loop : goal.invariant-loop
