@@ -2,3 +2,4 @@ pub mod Parts
 pub mod Numbers
 pub mod Lines
 pub mod Laws
+pub mod ChoiceLaws

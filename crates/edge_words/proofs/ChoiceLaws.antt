@@ -1,0 +1,165 @@
+-- Laws of readings that go on by a word.
+use Rattle.std.proofs.Common.{◌≡◌, ◌<◌, ◌^◌, ℕ, Bool, true, false, cond, List, [], ◌∷◌, ◌++◌, refl, sym, ◌∙◌, ap, subst, Option, None, Some, ◌⊎◌, inl, inr}
+use Rattle.std.specs.Prelude.{bytes_eq, decimal}
+use Rattle.std.proofs.lemmas.Option.{cond_some, same_Some}
+use Rattle.std.proofs.lemmas.List.Folds.{list_all-append}
+use Rattle.edge_words.specs.Words.{is_word, are_words}
+use Rattle.edge_words.specs.Reading.{at_end, number_in}
+use Rattle.edge_words.specs.Choices.{Row, in_row, by_name, alone, made, first_then, no_words, optional, optional_words, exactly, number_or, number_or_word}
+use Rattle.edge_words.proofs.Numbers.{same_bytes, other_bytes, bytes_eq_refl, number_takes, number_again, number_word}
+use Rattle.edge_words.proofs.Laws.{IsCodec, IsLawful, IsWhole, FitBoth, bind_some, map_some}
+
+-- which way a test went
+chosen : {A : Type 0} (b : Bool) (x y z : A) → cond b x y ≡ z → ((b ≡ true) × (x ≡ z)) ⊎ ((b ≡ false) × (y ≡ z))
+chosen true x y z e = inl (refl, e)
+chosen false x y z e = inr (refl, e)
+
+-- ---- rows
+
+-- what a row takes is spelled so, and fits
+abbrev pub RowTakes : {X : Type 0} → (X → List (List ℕ)) → (X → Type 0) → Row X → Type 0
+RowTakes {X} spell Fits row = (words : List (List ℕ)) (x : X) → row.1 words ≡ Some x → (row.0 ∷ words ≡ spell x) × Fits x
+
+abbrev pub RowsTake : {X : Type 0} → (X → List (List ℕ)) → (X → Type 0) → List (Row X) → Type 0
+RowsTake spell Fits [] = Unit {0}
+RowsTake spell Fits (row ∷ rows) = RowTakes spell Fits row × RowsTake spell Fits rows
+
+in_row_takes : {X : Type 0} (spell : X → List (List ℕ)) (Fits : X → Type 0) (rows : List (Row X)) → RowsTake spell Fits rows
+    → (name : List ℕ) (words : List (List ℕ)) (x : X) → in_row rows name words ≡ Some x → (name ∷ words ≡ spell x) × Fits x
+in_row_takes spell Fits [] laws name words x e = cc e
+in_row_takes spell Fits (row ∷ rows) laws name words x e =
+    elim (chosen (bytes_eq name row.0) _ _ (Some x) e) [
+      | inl same ↦
+          let found = laws.0 words x same.1 in
+          (ap (λ (w : List ℕ). w ∷ words) (same_bytes name row.0 same.0) ∙ found.0, found.1)
+      | inr other ↦ in_row_takes spell Fits rows laws.1 name words x other.1
+    ]
+
+pub by_name_takes : {X : Type 0} (spell : X → List (List ℕ)) (Fits : X → Type 0) (rows : List (Row X)) → RowsTake spell Fits rows
+    → (words : List (List ℕ)) (x : X) → by_name rows words ≡ Some x → (words ≡ spell x) × Fits x
+by_name_takes spell Fits rows laws [] x e = cc e
+by_name_takes spell Fits rows laws (name ∷ words) x e = in_row_takes spell Fits rows laws name words x e
+
+-- a row that makes its value of what a lawful reading says
+pub made_row : {X Y : Type 0} (name : List ℕ) (spell : X → List (List ℕ)) (Fits : X → Type 0) (read : List (List ℕ) → Option X) (make : X → Y) (words_of : Y → List (List ℕ)) (Good : Y → Type 0)
+    → IsWhole spell Fits read → ((x : X) → Fits x → (name ∷ spell x ≡ words_of (make x)) × Good (make x))
+    → RowTakes words_of Good (name, made make read)
+made_row {X} {Y} name spell Fits read make words_of Good law facts words y e =
+    let x = map_some make (read words) y e in
+    let found = law.takes words x.0 x.1 in
+    let good = facts x.0 found.1 in
+    let P : Y → Type 0 = λ y. (name ∷ words ≡ words_of y) × Good y in
+    subst P x.2 (ap (λ (ws : List (List ℕ)). name ∷ ws) found.0 ∙ good.0, good.1)
+
+-- a row with one value, and no word after its name
+pub alone_row : {Y : Type 0} (name : List ℕ) (y : Y) (words_of : Y → List (List ℕ)) (Good : Y → Type 0) → name ∷ [] ≡ words_of y → Good y → RowTakes words_of Good (name, alone y)
+alone_row {Y} name y words_of Good spelled good [] z e =
+    let P : Y → Type 0 = λ y. (name ∷ [] ≡ words_of y) × Good y in
+    subst P (same_Some _ _ e) (spelled, good)
+alone_row name y words_of Good spelled good (word ∷ words) z e = cc e
+
+-- ---- some words, and then all others
+
+first_then_takes : {X Y : Type 0} (spell : X → List (List ℕ)) (Fits : X → Type 0) (read : List (List ℕ) → Option (X × List (List ℕ))) (spell' : Y → List (List ℕ)) (Fits' : Y → Type 0) (read' : List (List ℕ) → Option Y)
+    → IsLawful spell Fits read → IsWhole spell' Fits' read'
+    → (words : List (List ℕ)) (x : X × Y) → first_then read read' words ≡ Some x → (words ≡ spell x.0 ++ spell' x.1) × FitBoth Fits Fits' x
+first_then_takes {X} {Y} spell Fits read spell' Fits' read' first second words x e =
+    let a = bind_some (read words) _ x e in
+    let b = bind_some (read' a.0.1) _ x a.2 in
+    let front = first.takes words a.0 a.1 in
+    let back = second.takes a.0.1 b.0 b.1 in
+    let P : X × Y → Type 0 = λ p. (words ≡ spell p.0 ++ spell' p.1) × FitBoth Fits Fits' p in
+    subst P (same_Some _ _ b.2) (front.0 ∙ ap (λ (rest : List (List ℕ)). spell a.0.0 ++ rest) back.0, (front.1, back.1))
+
+pub first_then_whole : {X Y : Type 0} (spell : X → List (List ℕ)) (Fits : X → Type 0) (read : List (List ℕ) → Option (X × List (List ℕ))) (spell' : Y → List (List ℕ)) (Fits' : Y → Type 0) (read' : List (List ℕ) → Option Y)
+    → IsLawful spell Fits read → IsWhole spell' Fits' read'
+    → IsWhole (λ (x : X × Y). spell x.0 ++ spell' x.1) (FitBoth Fits Fits') (first_then read read')
+first_then_whole spell Fits read spell' Fits' read' first second = record {
+  takes = first_then_takes spell Fits read spell' Fits' read' first second;
+  again = λ x fits. rw (first.again x.0 (spell' x.1) fits.0, second.again x.1 fits.1) refl;
+  words = λ x fits. rw (list_all-append is_word (spell x.0) (spell' x.1), first.words x.0 fits.0) (second.words x.1 fits.1);
+}
+
+-- ---- words that may be missing
+
+pub some_left : (words : List (List ℕ)) → at_end words ≡ None → false ≡ no_words words
+some_left [] some = cc some
+some_left (word ∷ words) some = refl
+
+abbrev pub FitOption : {X : Type 0} → (X → Type 0) → Option X → Type 0
+FitOption Fits None = Unit {0}
+FitOption Fits (Some x) = Fits x
+
+optional_takes : {X : Type 0} (spell : X → List (List ℕ)) (Fits : X → Type 0) (read : List (List ℕ) → Option X) → IsWhole spell Fits read
+    → (words : List (List ℕ)) (x : Option X) → optional read words ≡ Some x → (words ≡ optional_words spell x) × FitOption Fits x
+optional_takes {X} spell Fits read law [] x e =
+    let P : Option X → Type 0 = λ o. ([] ≡ optional_words spell o) × FitOption Fits o in
+    subst P (same_Some _ _ e) (refl, tt)
+optional_takes {X} spell Fits read law (word ∷ words) x e =
+    let got = map_some (λ (y : X). Some y) (read (word ∷ words)) x e in
+    let P : Option X → Type 0 = λ o. (word ∷ words ≡ optional_words spell o) × FitOption Fits o in
+    subst P got.2 (law.takes (word ∷ words) got.0 got.1)
+
+optional_some : {X : Type 0} (x : X) (read : List (List ℕ) → Option X) (words : List (List ℕ)) → at_end words ≡ None → read words ≡ Some x → optional read words ≡ Some (Some x)
+optional_some x read [] some e = cc some
+optional_some x read (word ∷ words) some e = rw e refl
+
+optional_again : {X : Type 0} (spell : X → List (List ℕ)) (Fits : X → Type 0) (read : List (List ℕ) → Option X) → IsWhole spell Fits read → ((x : X) → at_end (spell x) ≡ None)
+    → (x : Option X) → FitOption Fits x → optional read (optional_words spell x) ≡ Some x
+optional_again spell Fits read law some None fits = refl
+optional_again spell Fits read law some (Some x) fits = optional_some x read (spell x) (some x) (law.again x fits)
+
+optional_visible : {X : Type 0} (spell : X → List (List ℕ)) (Fits : X → Type 0) (read : List (List ℕ) → Option X) → IsWhole spell Fits read
+    → (x : Option X) → FitOption Fits x → are_words (optional_words spell x) ≡ true
+optional_visible spell Fits read law None fits = refl
+optional_visible spell Fits read law (Some x) fits = law.words x fits
+
+pub optional_whole : {X : Type 0} (spell : X → List (List ℕ)) (Fits : X → Type 0) (read : List (List ℕ) → Option X) → IsWhole spell Fits read → ((x : X) → at_end (spell x) ≡ None) → IsWhole (optional_words spell) (FitOption Fits) (optional read)
+optional_whole spell Fits read law some = record {
+  takes = optional_takes spell Fits read law;
+  again = optional_again spell Fits read law some;
+  words = optional_visible spell Fits read law;
+}
+
+-- ---- words
+
+exactly_takes : (name word : List ℕ) (x : Unit {0}) → exactly name word ≡ Some x → (word ≡ name) × Unit {0}
+exactly_takes name word x e = (same_bytes word name (cond_some _ _ _ e).0, tt)
+
+pub exactly_codec : (name : List ℕ) → is_word name ≡ true → IsCodec (λ (_ : Unit {0}). name) (λ _. Unit {0}) (exactly name)
+exactly_codec name visible = record {
+  takes = exactly_takes name;
+  again = λ x fits. rw (bytes_eq_refl name) refl;
+  word = λ x fits. visible;
+}
+
+-- the number is below this
+abbrev pub IsNumberBelow : ℕ → Option ℕ → Type 0
+IsNumberBelow bound = FitOption (λ n. n < bound)
+
+number_or_takes : (name word : List ℕ) (x : Option ℕ) → number_or name word ≡ Some x → (word ≡ number_or_word name x) × IsNumberBelow (2 ^ 64) x
+number_or_takes name word x e =
+    let P : Option ℕ → Type 0 = λ o. (word ≡ number_or_word name o) × IsNumberBelow (2 ^ 64) o in
+    elim (chosen (bytes_eq word name) _ _ (Some x) e) [
+      | inl same ↦ subst P (same_Some _ _ same.1) (same_bytes word name same.0, tt)
+      | inr other ↦
+          let n = map_some (λ (k : ℕ). Some k) (number_in word) x other.1 in
+          subst P n.2 (number_takes word n.0 n.1)
+    ]
+
+number_or_again : (name : List ℕ) → number_in name ≡ None → (x : Option ℕ) → IsNumberBelow (2 ^ 64) x → number_or name (number_or_word name x) ≡ Some x
+number_or_again name none None fits = rw (bytes_eq_refl name) refl
+number_or_again name none (Some n) fits =
+    let other = other_bytes (decimal n) name (λ e. cc (sym (number_again n fits) ∙ ap number_in e ∙ none)) in
+    rw (other, number_again n fits) refl
+
+number_or_visible : (name : List ℕ) → is_word name ≡ true → (x : Option ℕ) → IsNumberBelow (2 ^ 64) x → is_word (number_or_word name x) ≡ true
+number_or_visible name visible None fits = visible
+number_or_visible name visible (Some n) fits = number_word n fits
+
+pub number_or_codec : (name : List ℕ) → is_word name ≡ true → number_in name ≡ None → IsCodec (number_or_word name) (IsNumberBelow (2 ^ 64)) (number_or name)
+number_or_codec name visible none = record {
+  takes = number_or_takes name;
+  again = number_or_again name none;
+  word = number_or_visible name visible;
+}
