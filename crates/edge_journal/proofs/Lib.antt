@@ -5,3 +5,4 @@ pub mod Machines
 pub mod Again
 pub mod Found
 pub mod Written
+pub mod ByLines

@@ -4,3 +4,4 @@ pub mod Reading
 pub mod Machine
 pub mod Begins
 pub mod Journal
+pub mod ByLines
