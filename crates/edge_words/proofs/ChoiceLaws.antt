@@ -5,7 +5,7 @@ use Rattle.std.proofs.lemmas.Option.{cond_some, same_Some}
 use Rattle.std.proofs.lemmas.List.Folds.{list_all-append}
 use Rattle.edge_words.specs.Words.{is_word, are_words}
 use Rattle.edge_words.specs.Reading.{at_end, number_in}
-use Rattle.edge_words.specs.Choices.{Row, in_row, by_name, alone, made, first_then, no_words, optional, optional_words, exactly, number_or, number_or_word}
+use Rattle.edge_words.specs.Choices.{Row, in_row, by_name, alone, made, first_then, no_words, if_any, if_any_words, exactly, number_or, number_or_word}
 use Rattle.edge_words.proofs.Numbers.{same_bytes, other_bytes, bytes_eq_refl, number_takes, number_again, number_word}
 use Rattle.edge_words.proofs.Laws.{IsCodec, IsLawful, IsWhole, FitBoth, bind_some, map_some}
 
@@ -90,35 +90,35 @@ abbrev pub FitOption : {X : Type 0} → (X → Type 0) → Option X → Type 0
 FitOption Fits None = Unit {0}
 FitOption Fits (Some x) = Fits x
 
-optional_takes : {X : Type 0} (spell : X → List (List ℕ)) (Fits : X → Type 0) (read : List (List ℕ) → Option X) → IsWhole spell Fits read
-    → (words : List (List ℕ)) (x : Option X) → optional read words ≡ Some x → (words ≡ optional_words spell x) × FitOption Fits x
-optional_takes {X} spell Fits read law [] x e =
-    let P : Option X → Type 0 = λ o. ([] ≡ optional_words spell o) × FitOption Fits o in
+if_any_takes : {X : Type 0} (spell : X → List (List ℕ)) (Fits : X → Type 0) (read : List (List ℕ) → Option X) → IsWhole spell Fits read
+    → (words : List (List ℕ)) (x : Option X) → if_any read words ≡ Some x → (words ≡ if_any_words spell x) × FitOption Fits x
+if_any_takes {X} spell Fits read law [] x e =
+    let P : Option X → Type 0 = λ o. ([] ≡ if_any_words spell o) × FitOption Fits o in
     subst P (same_Some _ _ e) (refl, tt)
-optional_takes {X} spell Fits read law (word ∷ words) x e =
+if_any_takes {X} spell Fits read law (word ∷ words) x e =
     let got = map_some (λ (y : X). Some y) (read (word ∷ words)) x e in
-    let P : Option X → Type 0 = λ o. (word ∷ words ≡ optional_words spell o) × FitOption Fits o in
+    let P : Option X → Type 0 = λ o. (word ∷ words ≡ if_any_words spell o) × FitOption Fits o in
     subst P got.2 (law.takes (word ∷ words) got.0 got.1)
 
-optional_some : {X : Type 0} (x : X) (read : List (List ℕ) → Option X) (words : List (List ℕ)) → at_end words ≡ None → read words ≡ Some x → optional read words ≡ Some (Some x)
-optional_some x read [] some e = cc some
-optional_some x read (word ∷ words) some e = rw e refl
+if_any_some : {X : Type 0} (x : X) (read : List (List ℕ) → Option X) (words : List (List ℕ)) → at_end words ≡ None → read words ≡ Some x → if_any read words ≡ Some (Some x)
+if_any_some x read [] some e = cc some
+if_any_some x read (word ∷ words) some e = rw e refl
 
-optional_again : {X : Type 0} (spell : X → List (List ℕ)) (Fits : X → Type 0) (read : List (List ℕ) → Option X) → IsWhole spell Fits read → ((x : X) → at_end (spell x) ≡ None)
-    → (x : Option X) → FitOption Fits x → optional read (optional_words spell x) ≡ Some x
-optional_again spell Fits read law some None fits = refl
-optional_again spell Fits read law some (Some x) fits = optional_some x read (spell x) (some x) (law.again x fits)
+if_any_again : {X : Type 0} (spell : X → List (List ℕ)) (Fits : X → Type 0) (read : List (List ℕ) → Option X) → IsWhole spell Fits read → ((x : X) → at_end (spell x) ≡ None)
+    → (x : Option X) → FitOption Fits x → if_any read (if_any_words spell x) ≡ Some x
+if_any_again spell Fits read law some None fits = refl
+if_any_again spell Fits read law some (Some x) fits = if_any_some x read (spell x) (some x) (law.again x fits)
 
-optional_visible : {X : Type 0} (spell : X → List (List ℕ)) (Fits : X → Type 0) (read : List (List ℕ) → Option X) → IsWhole spell Fits read
-    → (x : Option X) → FitOption Fits x → are_words (optional_words spell x) ≡ true
-optional_visible spell Fits read law None fits = refl
-optional_visible spell Fits read law (Some x) fits = law.words x fits
+if_any_visible : {X : Type 0} (spell : X → List (List ℕ)) (Fits : X → Type 0) (read : List (List ℕ) → Option X) → IsWhole spell Fits read
+    → (x : Option X) → FitOption Fits x → are_words (if_any_words spell x) ≡ true
+if_any_visible spell Fits read law None fits = refl
+if_any_visible spell Fits read law (Some x) fits = law.words x fits
 
-pub optional_whole : {X : Type 0} (spell : X → List (List ℕ)) (Fits : X → Type 0) (read : List (List ℕ) → Option X) → IsWhole spell Fits read → ((x : X) → at_end (spell x) ≡ None) → IsWhole (optional_words spell) (FitOption Fits) (optional read)
-optional_whole spell Fits read law some = record {
-  takes = optional_takes spell Fits read law;
-  again = optional_again spell Fits read law some;
-  words = optional_visible spell Fits read law;
+pub if_any_whole : {X : Type 0} (spell : X → List (List ℕ)) (Fits : X → Type 0) (read : List (List ℕ) → Option X) → IsWhole spell Fits read → ((x : X) → at_end (spell x) ≡ None) → IsWhole (if_any_words spell) (FitOption Fits) (if_any read)
+if_any_whole spell Fits read law some = record {
+  takes = if_any_takes spell Fits read law;
+  again = if_any_again spell Fits read law some;
+  words = if_any_visible spell Fits read law;
 }
 
 -- ---- words

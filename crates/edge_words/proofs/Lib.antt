@@ -3,3 +3,6 @@ pub mod Numbers
 pub mod Lines
 pub mod Laws
 pub mod ChoiceLaws
+pub mod Before
+pub mod Options
+pub mod Commas

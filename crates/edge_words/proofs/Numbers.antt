@@ -6,6 +6,7 @@ use Rattle.std.specs.Result.{IfOk}
 use Rattle.std.proofs.lemmas.Bool.{ltb-true}
 use Rattle.std.proofs.lemmas.Bool.Decides.{nat_tests}
 use Rattle.std.proofs.lemmas.Fmt.{decimal_is_IsNumeral, decimal_by_steps}
+use Rattle.std.specs.List.{list_all}
 use Rattle.std.proofs.lemmas.List.Folds.{list_all-append, list_all_at}
 use Rattle.std.proofs.lemmas.Option.{cond_some, same_Some}
 use Rattle.std.proofs.lemmas.Slice.Eq.{bytes_eq-Decides}
@@ -118,27 +119,31 @@ hex_fails view word fault other (inr decoded) =
     let none : hex_in word ≡ None = hex_decoded word (Err fault) other decoded in
     elim fault as (λ f. Gives view (Err (fault_of f)) (hex_in word)) [ memory.OutOfMemory ↦ tt | _ ↦ none ]
 
--- the digits of hexadecimal are visible
-digit_visible : (d : ℕ) → d < 16 → is_visible (slice_index lower_digits d) ≡ true
-digit_visible d small =
-    let with : (t : Bool) → is_visible (slice_index lower_digits d) ≡ t → is_visible (slice_index lower_digits d) ≡ true =
+-- what holds of each digit of hexadecimal
+digit_passes : (test : ℕ → Bool) (d : ℕ) → list_all test lower_digits ≡ true → d < 16 → test (slice_index lower_digits d) ≡ true
+digit_passes test d each small =
+    let with : (t : Bool) → test (slice_index lower_digits d) ≡ t → test (slice_index lower_digits d) ≡ true =
     elim [
       | true ↦ λ e. e
-      | false ↦ λ e. let all = list_all_at is_visible lower_digits d 0 small e in cc all
+      | false ↦ λ e. let all = list_all_at test lower_digits d 0 small e in cc (sym each ∙ all)
     ] in with _ refl
 
-digits_word : (bytes : List ℕ) → IsBytes bytes → is_word (encode_lower bytes) ≡ true
+digits_pass : (test : ℕ → Bool) (bytes : List ℕ) → list_all test lower_digits ≡ true → IsBytes bytes → list_all test (encode_lower bytes) ≡ true
 unfolding encode_with
-digits_word [] fits = refl
-digits_word (b ∷ bytes) fits =
+digits_pass test [] each fits = refl
+digits_pass test (b ∷ bytes) each fits =
     let byte : b < 256 = fits 0 in
-    let high = digit_visible (b / 16) (omega arith) in
-    let low = digit_visible (b % 16) (omega arith) in
-    rw (high, low) (digits_word bytes (λ i. fits (suc i)))
+    let high = digit_passes test (b / 16) each (omega arith) in
+    let low = digit_passes test (b % 16) each (omega arith) in
+    rw (high, low) (digits_pass test bytes each (λ i. fits (suc i)))
+
+-- and of the dash holds of bytes in hexadecimal
+pub hex_passes : (test : ℕ → Bool) (bytes : List ℕ) → list_all test lower_digits ≡ true → test 45 ≡ true → IsBytes bytes → list_all test (hex_word bytes) ≡ true
+hex_passes test [] each dash fits = rw dash refl
+hex_passes test (b ∷ bytes) each dash fits = digits_pass test (b ∷ bytes) each fits
 
 pub hex_word_word : (bytes : List ℕ) → IsBytes bytes → is_word (hex_word bytes) ≡ true
-hex_word_word [] fits = refl
-hex_word_word (b ∷ bytes) fits = digits_word (b ∷ bytes) fits
+hex_word_word bytes fits = hex_passes is_visible bytes refl refl fits
 
 -- ---- what a reader told
 

@@ -36,12 +36,12 @@ no_words [] = true
 no_words (_ ∷ _) = false
 
 -- all words that are left, if there are any
-abbrev pub optional : {X : Type 0} → (List (List ℕ) → Option X) → List (List ℕ) → Option (Option X)
-optional read words = if no_words words then Some None else option_map (λ x. Some x) (read words)
+abbrev pub if_any : {X : Type 0} → (List (List ℕ) → Option X) → List (List ℕ) → Option (Option X)
+if_any read words = if no_words words then Some None else option_map (λ x. Some x) (read words)
 
-abbrev pub optional_words : {X : Type 0} → (X → List (List ℕ)) → Option X → List (List ℕ)
-optional_words spell None = []
-optional_words spell (Some x) = spell x
+abbrev pub if_any_words : {X : Type 0} → (X → List (List ℕ)) → Option X → List (List ℕ)
+if_any_words spell None = []
+if_any_words spell (Some x) = spell x
 
 -- this word
 abbrev pub exactly : List ℕ → List ℕ → Option (Unit {0})

@@ -1,7 +1,7 @@
 -- Reading on lists: a value and the words that are left, or nothing.
-use Rattle.std.specs.Prelude.{◌≡◌, ℕ, ◌^◌, ◌&&◌, List, [], ◌∷◌, nat_lt, nat_le, ◌==◌, decimal, codes, bytes_eq, length, take, drop, Option, None, Some, Result, Ok, Err, if◌then◌else◌}
+use Rattle.std.specs.Prelude.{◌≡◌, ℕ, ◌^◌, ◌&&◌, Bool, not, List, true, [], ◌∷◌, nat_lt, nat_le, ◌==◌, decimal, codes, bytes_eq, length, take, drop, Option, None, Some, Result, Ok, Err, if◌then◌else◌}
 use Rattle.std.specs.Option.{option_map}
-use Rattle.std.specs.List.{slice_split}
+use Rattle.std.specs.List.{slice_split, list_all}
 use Rattle.std.specs.Borrow.{Bor}
 use Rattle.std.specs.Str.Parse.{digits_value}
 use Rattle.hex.specs.Hex.{decode_of}
@@ -60,10 +60,13 @@ abbrev pub one : {X : Type 0} → (List ℕ → Option X) → List (List ℕ) �
 one read [] = None
 one read (word ∷ words) = option_map (λ x. (x, words)) (read word)
 
+-- the word begins so
+abbrev pub begins : List ℕ → List ℕ → Bool
+begins prefix word = bytes_eq (take (length prefix) word) prefix
+
 -- what stands after the prefix
 abbrev pub without_prefix : List ℕ → List ℕ → Option (List ℕ)
-without_prefix prefix word =
-    if bytes_eq (take (length prefix) word) prefix then Some (drop (length prefix) word) else None
+without_prefix prefix word = if begins prefix word then Some (drop (length prefix) word) else None
 
 -- the rest of a word after a prefix, as this function reads it
 abbrev pub prefixed : {X : Type 0} → List ℕ → (List ℕ → Option X) → List ℕ → Option X
@@ -116,3 +119,56 @@ spelled_so word (Err _) = None
 -- the bytes that are spelled so
 unfoldable pub hex_in : List ℕ → Option (List ℕ)
 hex_in word = if bytes_eq word (codes "-") then Some [] else spelled_so word (decode_of word)
+
+-- ---- words that may be left out
+
+-- the first word, if there is one, begins with none of these
+abbrev pub avoids : List (List ℕ) → List (List ℕ) → Bool
+avoids prefixes [] = true
+avoids prefixes (word ∷ words) = list_all (λ prefix. not (begins prefix word)) prefixes
+
+abbrev pub Avoids : List (List ℕ) → List (List ℕ) → Type 0
+Avoids prefixes words = avoids prefixes words ≡ true
+
+-- what stands after the prefix in the first word, if that begins so, and the words that are left
+abbrev pub optional : List ℕ → List (List ℕ) → Option (List ℕ) × List (List ℕ)
+optional prefix [] = (None, [])
+optional prefix (word ∷ words) =
+    if begins prefix word then (Some (drop (length prefix) word), words) else (None, word ∷ words)
+
+-- an option, as this function reads it, or what stands for none
+abbrev pub read_or : {X : Type 0} → (List ℕ → Option X) → X → Option (List ℕ) × List (List ℕ) → Option (X × List (List ℕ))
+read_or read absent (None, words) = Some (absent, words)
+read_or read absent (Some text, words) = option_map (λ x. (x, words)) (read text)
+
+abbrev pub maybe : {X : Type 0} → List ℕ → (List ℕ → Option X) → X → List (List ℕ) → Option (X × List (List ℕ))
+maybe prefix read absent words = read_or read absent (optional prefix words)
+
+-- one more before the others
+abbrev pub onto : {X : Type 0} → X → Option (List X × List (List ℕ)) → Option (List X × List (List ℕ))
+onto x more = option_map (λ m. (x ∷ m.0, m.1)) more
+
+-- the words that begin so, each as this function reads the rest of it
+abbrev pub many : {X : Type 0} → List ℕ → (List ℕ → Option X) → List (List ℕ) → Option (List X × List (List ℕ))
+many prefix read [] = Some ([], [])
+many prefix read (word ∷ words) =
+    if begins prefix word then (read (drop (length prefix) word) >>= λ x. onto x (many prefix read words))
+    else Some ([], word ∷ words)
+
+-- each part, as this function reads it
+abbrev pub each : {X : Type 0} → (List ℕ → Option X) → List (List ℕ) → Option (List X)
+each read [] = Some []
+each read (part ∷ parts) = read part >>= λ x. option_map (λ xs. x ∷ xs) (each read parts)
+
+-- the pieces between commas
+abbrev pub listed_in : {X : Type 0} → (List ℕ → Option X) → List ℕ → Option (List X)
+listed_in read text = each read (parts_at 44 text)
+
+-- a reading, and what is made of it
+abbrev pub mapped : {X Y : Type 0} → (X → Y) → (List (List ℕ) → Option (X × List (List ℕ))) → List (List ℕ) → Option (Y × List (List ℕ))
+mapped make read words = option_map (λ r. (make r.0, r.1)) (read words)
+
+-- all of them fit
+abbrev pub AllFit : {X : Type 0} → (X → Type 0) → List X → Type 0
+AllFit Fits [] = Unit {0}
+AllFit Fits (x ∷ xs) = Fits x × AllFit Fits xs

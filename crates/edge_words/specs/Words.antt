@@ -34,3 +34,12 @@ text_of lines = flat_map ended lines
 abbrev pub hex_word : List ℕ → List ℕ
 hex_word [] = codes "-"
 hex_word (byte ∷ bytes) = encode_lower (byte ∷ bytes)
+
+-- a comma, and then the piece
+abbrev pub after_comma : List ℕ → List ℕ
+after_comma piece = 44 ∷ piece
+
+-- pieces with commas between them
+abbrev pub listed : List (List ℕ) → List ℕ
+listed [] = []
+listed (piece ∷ pieces) = piece ++ flat_map after_comma pieces

@@ -1,6 +1,7 @@
 ghost use Rattle.std.specs.Prelude.{◌≡◌, ◌≤◌, IfOk};
+ghost use Rattle.std.specs.Option.{option_map};
 ghost use Rattle.edge_words.specs.Words.{line_of};
-ghost use Rattle.edge_words.specs.Reading.{Gives, one, as_word, at_end, number_in, number_from_to, hex_in, prefixed, words_in};
+ghost use Rattle.edge_words.specs.Reading.{Gives, one, optional, as_word, at_end, number_in, number_from_to, hex_in, prefixed, words_in};
 ghost use Rattle.edge_words.specs.Choices.{no_words};
 
 use crate::{LineFault, cut, read_hex, read_number};
@@ -98,6 +99,24 @@ impl<'a> Words<'a> {
         match self.rest {
             Some(_) => false,
             None => true,
+        }
+    }
+
+    /// What stands after the prefix in the next word, where that begins so, and the words after it. Any other word is
+    /// not read.
+    pub fn optional(self, prefix: &[u8]) -> (Option<&'a [u8]>, Words<'a>)
+        ensures { (option_map (λ text. text.now) result.0, result.1) ≡ optional prefix.now self.entry }
+    {
+        let Some(line) = self.rest else {
+            return (None, Words { rest: None });
+        };
+        let (word, rest) = match cut(line, b' ') {
+            Some((word, after)) => (word, Some(after)),
+            None => (line, None),
+        };
+        match word.strip_prefix(prefix) {
+            Some(text) => (Some(text), Words { rest }),
+            None => (None, Words { rest: Some(line) }),
         }
     }
 
