@@ -5,7 +5,7 @@ use Rattle.std.proofs.lemmas.Option.{cond_some, same_Some}
 use Rattle.std.proofs.lemmas.List.Folds.{list_all-append}
 use Rattle.edge_words.specs.Words.{is_word, are_words}
 use Rattle.edge_words.specs.Reading.{at_end, number_in}
-use Rattle.edge_words.specs.Choices.{Row, in_row, by_name, alone, made, first_then, no_words, if_any, if_any_words, exactly, number_or, number_or_word}
+use Rattle.edge_words.specs.Choices.{Row, in_row, by_name, alone, made, first_then, no_words, if_any, if_any_words, FitOption, exactly, number_or, number_or_word}
 use Rattle.edge_words.proofs.Numbers.{same_bytes, other_bytes, bytes_eq_refl, number_takes, number_again, number_word}
 use Rattle.edge_words.proofs.Laws.{IsCodec, IsLawful, IsWhole, FitBoth, bind_some, map_some}
 
@@ -85,10 +85,6 @@ first_then_whole spell Fits read spell' Fits' read' first second = record {
 pub some_left : (words : List (List ℕ)) → at_end words ≡ None → false ≡ no_words words
 some_left [] some = cc some
 some_left (word ∷ words) some = refl
-
-abbrev pub FitOption : {X : Type 0} → (X → Type 0) → Option X → Type 0
-FitOption Fits None = Unit {0}
-FitOption Fits (Some x) = Fits x
 
 if_any_takes : {X : Type 0} (spell : X → List (List ℕ)) (Fits : X → Type 0) (read : List (List ℕ) → Option X) → IsWhole spell Fits read
     → (words : List (List ℕ)) (x : Option X) → if_any read words ≡ Some x → (words ≡ if_any_words spell x) × FitOption Fits x

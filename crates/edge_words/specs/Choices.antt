@@ -54,3 +54,8 @@ number_or name word = if bytes_eq word name then Some None else option_map (λ n
 abbrev pub number_or_word : List ℕ → Option ℕ → List ℕ
 number_or_word name None = name
 number_or_word name (Some n) = decimal n
+
+-- what there is fits
+abbrev pub FitOption : {X : Type 0} → (X → Type 0) → Option X → Type 0
+FitOption Fits None = Unit {0}
+FitOption Fits (Some x) = Fits x

@@ -1,6 +1,6 @@
 ghost use Rattle.std.specs.Prelude.{◌≡◌};
 ghost use Rattle.edge_words.specs.Reading.{Gives, one};
-ghost use Rattle.edge_words.specs.Choices.{exactly, number_or};
+ghost use Rattle.edge_words.specs.Choices.{alone, exactly, number_or};
 
 use crate::{LineFault, Words, read_number};
 
@@ -14,6 +14,14 @@ fn read_number_or(name: &[u8], word: &[u8]) -> Option<Option<u64>>
 }
 
 impl<'a> Words<'a> {
+    /// This value, where no word is left.
+    pub fn alone<T: Drop>(self, value: T) -> Result<T, LineFault>
+        ensures { Gives (λ read. read) result (alone value self.entry) }
+    {
+        self.end()?;
+        Ok(value)
+    }
+
     /// The next word is this one.
     pub fn exactly(self, name: &[u8]) -> Result<Words<'a>, LineFault>
         ensures { Gives (λ words. (tt, words)) result (one (exactly name.now) self.entry) }
