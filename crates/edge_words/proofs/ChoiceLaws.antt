@@ -1,12 +1,16 @@
 -- Laws of readings that go on by a word.
-use Rattle.std.proofs.Common.{◌≡◌, ◌<◌, ◌^◌, ℕ, Bool, true, false, cond, List, [], ◌∷◌, ◌++◌, refl, sym, ◌∙◌, ap, subst, Option, None, Some, ◌⊎◌, inl, inr}
+use Rattle.std.proofs.Common.{◌≡◌, ◌<◌, ◌^◌, ◌+◌, ◌%◌, nat_lt, arith, ℕ, Bool, true, false, cond, List, [], ◌∷◌, ◌++◌, refl, sym, ◌∙◌, ap, subst, option_map, Option, None, Some, ◌⊎◌, inl, inr}
 use Rattle.std.specs.Prelude.{bytes_eq, decimal}
+use Rattle.std.specs.List.{list_all}
+use Rattle.std.proofs.lemmas.Bool.Decides.{nat_tests}
+use Rattle.std.proofs.lemmas.Fmt.{decimal_by_steps}
 use Rattle.std.proofs.lemmas.Option.{cond_some, same_Some}
 use Rattle.std.proofs.lemmas.List.Folds.{list_all-append}
 use Rattle.edge_words.specs.Words.{is_word, are_words}
 use Rattle.edge_words.specs.Reading.{at_end, number_in}
 use Rattle.edge_words.specs.Choices.{Row, in_row, by_name, alone, made, first_then, no_words, if_any, if_any_words, FitOption, exactly, number_or, number_or_word}
-use Rattle.edge_words.proofs.Numbers.{same_bytes, other_bytes, bytes_eq_refl, number_takes, number_again, number_word}
+use Rattle.edge_words.proofs.Numbers.{same_bytes, other_bytes, bytes_eq_refl, number_takes, number_again, number_none, number_word}
+use Rattle.edge_words.proofs.Before.{IsLawfulBefore, before_all}
 use Rattle.edge_words.proofs.Laws.{IsCodec, IsLawful, IsWhole, FitBoth, bind_some, map_some}
 
 -- which way a test went
@@ -60,10 +64,10 @@ alone_row name y words_of Good spelled good (word ∷ words) z e = cc e
 
 -- ---- some words, and then all others
 
-first_then_takes : {X Y : Type 0} (spell : X → List (List ℕ)) (Fits : X → Type 0) (read : List (List ℕ) → Option (X × List (List ℕ))) (spell' : Y → List (List ℕ)) (Fits' : Y → Type 0) (read' : List (List ℕ) → Option Y)
-    → IsLawful spell Fits read → IsWhole spell' Fits' read'
+first_then_takes : {X Y : Type 0} (Rest : List (List ℕ) → Type 0) (spell : X → List (List ℕ)) (Fits : X → Type 0) (read : List (List ℕ) → Option (X × List (List ℕ))) (spell' : Y → List (List ℕ)) (Fits' : Y → Type 0) (read' : List (List ℕ) → Option Y)
+    → IsLawfulBefore Rest spell Fits read → IsWhole spell' Fits' read'
     → (words : List (List ℕ)) (x : X × Y) → first_then read read' words ≡ Some x → (words ≡ spell x.0 ++ spell' x.1) × FitBoth Fits Fits' x
-first_then_takes {X} {Y} spell Fits read spell' Fits' read' first second words x e =
+first_then_takes {X} {Y} Rest spell Fits read spell' Fits' read' first second words x e =
     let a = bind_some (read words) _ x e in
     let b = bind_some (read' a.0.1) _ x a.2 in
     let front = first.takes words a.0 a.1 in
@@ -71,14 +75,21 @@ first_then_takes {X} {Y} spell Fits read spell' Fits' read' first second words x
     let P : X × Y → Type 0 = λ p. (words ≡ spell p.0 ++ spell' p.1) × FitBoth Fits Fits' p in
     subst P (same_Some _ _ b.2) (front.0 ∙ ap (λ (rest : List (List ℕ)). spell a.0.0 ++ rest) back.0, (front.1, back.1))
 
+-- where the others may follow
+pub before_then_whole : {X Y : Type 0} (Rest : List (List ℕ) → Type 0) (spell : X → List (List ℕ)) (Fits : X → Type 0) (read : List (List ℕ) → Option (X × List (List ℕ))) (spell' : Y → List (List ℕ)) (Fits' : Y → Type 0) (read' : List (List ℕ) → Option Y)
+    → IsLawfulBefore Rest spell Fits read → IsWhole spell' Fits' read' → ((y : Y) → Rest (spell' y))
+    → IsWhole (λ (x : X × Y). spell x.0 ++ spell' x.1) (FitBoth Fits Fits') (first_then read read')
+before_then_whole Rest spell Fits read spell' Fits' read' first second follows = record {
+  takes = first_then_takes Rest spell Fits read spell' Fits' read' first second;
+  again = λ x fits. rw (first.again x.0 (spell' x.1) fits.0 (follows x.1), second.again x.1 fits.1) refl;
+  words = λ x fits. rw (list_all-append is_word (spell x.0) (spell' x.1), first.words x.0 fits.0) (second.words x.1 fits.1);
+}
+
 pub first_then_whole : {X Y : Type 0} (spell : X → List (List ℕ)) (Fits : X → Type 0) (read : List (List ℕ) → Option (X × List (List ℕ))) (spell' : Y → List (List ℕ)) (Fits' : Y → Type 0) (read' : List (List ℕ) → Option Y)
     → IsLawful spell Fits read → IsWhole spell' Fits' read'
     → IsWhole (λ (x : X × Y). spell x.0 ++ spell' x.1) (FitBoth Fits Fits') (first_then read read')
-first_then_whole spell Fits read spell' Fits' read' first second = record {
-  takes = first_then_takes spell Fits read spell' Fits' read' first second;
-  again = λ x fits. rw (first.again x.0 (spell' x.1) fits.0, second.again x.1 fits.1) refl;
-  words = λ x fits. rw (list_all-append is_word (spell x.0) (spell' x.1), first.words x.0 fits.0) (second.words x.1 fits.1);
-}
+first_then_whole spell Fits read spell' Fits' read' first second =
+    before_then_whole (λ _. Unit {0}) spell Fits read spell' Fits' read' (before_all (λ _. Unit {0}) spell Fits read first) second (λ y. tt)
 
 -- ---- words that may be missing
 
@@ -129,6 +140,20 @@ exactly_codec name visible = record {
   word = λ x fits. visible;
 }
 
+-- a number has digits alone
+abbrev is_digit_or_less : ℕ → Bool
+is_digit_or_less b = nat_lt b 58
+
+number_digits : (n : ℕ) → n < 2 ^ 64 → list_all is_digit_or_less (decimal n) ≡ true
+number_digits n fits =
+    decimal_by_steps (λ _ digits. list_all is_digit_or_less digits ≡ true)
+    (λ k small. grind (arith, nat_tests))
+    (λ k digits big front. rw (list_all-append is_digit_or_less digits ((48 + k % 10) ∷ []), front) (grind (arith, nat_tests)))
+    n fits
+
+pub no_digits : (word : List ℕ) → list_all (λ b. nat_lt b 58) word ≡ false → number_in word ≡ None
+no_digits word other = sym (number_none word (λ n fits e. cc (sym (number_digits n fits) ∙ ap (list_all is_digit_or_less) (sym e) ∙ other)))
+
 -- the number is below this
 abbrev pub IsNumberBelow : ℕ → Option ℕ → Type 0
 IsNumberBelow bound = FitOption (λ n. n < bound)
@@ -158,4 +183,37 @@ number_or_codec name visible none = record {
   takes = number_or_takes name;
   again = number_or_again name none;
   word = number_or_visible name visible;
+}
+
+-- ---- readings made into values
+
+-- A reading whose value is made of what a lawful reading says, where back finds again what was said.
+pub made_whole : {X Y : Type 0} (spell : X → List (List ℕ)) (Fits : X → Type 0) (read : List (List ℕ) → Option X) (make : X → Y) (back : Y → X) (words_of : Y → List (List ℕ)) (Good : Y → Type 0)
+    → IsWhole spell Fits read
+    → ((x : X) → Fits x → (spell x ≡ words_of (make x)) × Good (make x))
+    → ((y : Y) → Good y → (make (back y) ≡ y) × (spell (back y) ≡ words_of y) × Fits (back y))
+    → IsWhole words_of Good (made make read)
+made_whole {X} {Y} spell Fits read make back words_of Good law facts found = record {
+  takes = λ words y e.
+      let x = map_some make (read words) y e in
+      let taken = law.takes words x.0 x.1 in
+      let good = facts x.0 taken.1 in
+      let P : Y → Type 0 = λ y. (words ≡ words_of y) × Good y in
+      subst P x.2 (taken.0 ∙ good.0, good.1);
+  again = λ y good.
+      let said = found y good in
+      ap (made make read) (sym said.1) ∙ ap (option_map make) (law.again (back y) said.2) ∙ ap (λ (z : Y). Some z) said.0;
+  words = λ y good.
+      let said = found y good in
+      ap are_words (sym said.1) ∙ law.words (back y) said.2;
+}
+
+-- a reading by names, of which each value is taken again
+pub by_name_whole : {X : Type 0} (spell : X → List (List ℕ)) (Fits : X → Type 0) (rows : List (Row X)) → RowsTake spell Fits rows
+    → ((x : X) → Fits x → (by_name rows (spell x) ≡ Some x) × (are_words (spell x) ≡ true))
+    → IsWhole spell Fits (by_name rows)
+by_name_whole spell Fits rows takes again = record {
+  takes = by_name_takes spell Fits rows takes;
+  again = λ x fits. (again x fits).0;
+  words = λ x fits. (again x fits).1;
 }
