@@ -1,6 +1,7 @@
 -- A machine that reads exactly the good texts tells the first line that can't stand where it stands.
-use Rattle.std.proofs.Common.{◌≡◌, ◌<◌, ◌≤◌, ◌+◌, ◌-◌, ℕ, suc, true, List, [], ◌∷◌, ◌++◌, length, take, refl, sym, ◌∙◌, ap, subst, Option, None, Some, Result, Ok, Err, arith, append_assoc, append-nil}
+use Rattle.std.proofs.Common.{◌≡◌, ◌<◌, ◌≤◌, ◌+◌, ◌-◌, ℕ, suc, true, List, [], ◌∷◌, ◌++◌, length, take, refl, sym, ◌∙◌, ap, subst, Option, None, Some, Result, Ok, Err, arith, ◌⊎◌, inl, inr, append_assoc, append-nil}
 use Rattle.std.specs.Option.{option_map_or}
+use Rattle.std.specs.Result.{IfOk, IfErr}
 use Rattle.std.specs.List.{list_all}
 use Rattle.std.proofs.lemmas.Option.{same_Some}
 use Rattle.edge_words.specs.Words.{text_of}
@@ -8,7 +9,9 @@ use Rattle.edge_words.specs.Reading.{parts_at, whole_lines, after_lines, all_but
 use Rattle.edge_words.proofs.Lines.{lacks, lines_takes, lines_again, not_last}
 use Rattle.edge_words.proofs.Laws.{bind_some}
 use Rattle.edge_words.proofs.Parts.{words_left}
-use Rattle.edge_journal.specs.ByLines.{Machine, after_all, ok_or_line, told, told_of, Begins, IsBadLine}
+use Rattle.edge_journal.specs.declared.run.RunFault.{RunFault}
+use Rattle.edge_journal.specs.declared.run.RunFault.TheVariants as fault
+use Rattle.edge_journal.specs.ByLines.{Machine, after_all, ok_or_line, told, told_of, Tells, IsReadAs, Begins, IsBadLine, IsFirstBad}
 
 -- ---- one line of a text
 
@@ -215,3 +218,22 @@ bad_line m Fits spell lines_to Stands exact bytes n e =
       before = subst P (sym here) (begins_some m Fits spell lines_to Stands exact (take found.0 (whole_lines bytes)) stops.state stops.front);
       here = λ within begins. begins_none m Fits spell lines_to Stands exact (take (found.0 + 1) (whole_lines bytes)) (stops.here (omega (arith, within, found.1))) (subst P next begins);
     }
+
+-- ---- the answer of a reader
+
+pub answer_found : {S V : Type 0} (m : Machine S V) (Fits : V → Type 0) (spell : V → List (List ℕ)) (lines_to : S → List (List ℕ)) (Stands : S → Type 0) → IsExact m Fits spell lines_to Stands
+    → (bytes : List ℕ) (answer : Result V RunFault) → Tells answer (told_of m bytes) → IfOk answer (λ value. Fits value × (bytes ≡ text_of (spell value)))
+answer_found m Fits spell lines_to Stands exact bytes (Ok value) tells = found_value m Fits spell lines_to Stands exact bytes value tells
+answer_found m Fits spell lines_to Stands exact bytes (Err _) tells = tt
+
+pub answer_only : {S V : Type 0} (m : Machine S V) (Fits : V → Type 0) (spell : V → List (List ℕ)) (lines_to : S → List (List ℕ)) (Stands : S → Type 0) → IsExact m Fits spell lines_to Stands
+    → (bytes : List ℕ) (answer : Result V RunFault) (value : V) → Tells answer (told_of m bytes) → Fits value → bytes ≡ text_of (spell value) → IsReadAs value answer
+answer_only m Fits spell lines_to Stands exact bytes (Ok read) value tells fits e = inl (cc (sym tells ∙ again_value m Fits spell lines_to Stands exact bytes value fits e))
+answer_only m Fits spell lines_to Stands exact bytes (Err (fault.Line n)) value tells fits e = cc (sym tells.1 ∙ again_value m Fits spell lines_to Stands exact bytes value fits e)
+answer_only m Fits spell lines_to Stands exact bytes (Err fault.OutOfMemory) value tells fits e = inr refl
+
+pub answer_line : {S V : Type 0} (m : Machine S V) (Fits : V → Type 0) (spell : V → List (List ℕ)) (lines_to : S → List (List ℕ)) (Stands : S → Type 0) → IsExact m Fits spell lines_to Stands
+    → (bytes : List ℕ) (answer : Result V RunFault) → Tells answer (told_of m bytes) → IfErr answer (IsFirstBad Fits spell bytes)
+answer_line m Fits spell lines_to Stands exact bytes (Ok value) tells = tt
+answer_line m Fits spell lines_to Stands exact bytes (Err (fault.Line n)) tells = (tells.0, bad_line m Fits spell lines_to Stands exact bytes tells.0 tells.1, tells.2)
+answer_line m Fits spell lines_to Stands exact bytes (Err fault.OutOfMemory) tells = tt

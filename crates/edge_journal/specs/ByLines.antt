@@ -1,8 +1,10 @@
 -- Texts that are read line by line.
-use Rattle.std.specs.Prelude.{◌≡◌, ◌≢◌, ◌≤◌, ◌+◌, ◌-◌, ℕ, List, [], ◌∷◌, ◌++◌, length, take, Option, None, Some, Result, Ok, Err}
+use Rattle.std.specs.Prelude.{◌≡◌, ◌≢◌, ◌≤◌, ◌+◌, ◌-◌, ◌⊎◌, min, ℕ, List, [], ◌∷◌, ◌++◌, length, take, Option, None, Some, Result, Ok, Err}
 use Rattle.std.specs.Option.{option_map_or}
 use Rattle.edge_words.specs.Words.{text_of}
 use Rattle.edge_words.specs.Reading.{whole_lines, after_lines, ◌>>=◌}
+use Rattle.edge_journal.specs.declared.run.RunFault.{RunFault}
+use Rattle.edge_journal.specs.declared.run.RunFault.TheVariants as fault
 
 -- ---- a machine
 
@@ -32,6 +34,22 @@ told m n state (line ∷ lines) rest =
 abbrev pub told_of : {State Value : Type 0} → Machine State Value → List ℕ → Result Value ℕ
 told_of m bytes = told m 1 m.start (whole_lines bytes) (after_lines bytes)
 
+-- ---- the answer of a reader
+
+-- the greatest number of a line that is told; a line behind it is told as this one
+abbrev pub most_line : ℕ
+most_line = 4294967295
+
+-- what all lines tell in the words of the reader, unless memory ran out
+abbrev pub Tells : {Value : Type 0} → Result Value RunFault → Result Value ℕ → Type 0
+Tells (Ok value) read = read ≡ Ok value
+Tells (Err (fault.Line n)) read = (m : ℕ) × (read ≡ Err m) × (n ≡ min m most_line)
+Tells (Err fault.OutOfMemory) read = Unit {0}
+
+-- read, unless memory ran out
+abbrev pub IsReadAs : {Value : Type 0} → Value → Result Value RunFault → Type 0
+IsReadAs value answer = (answer ≡ Ok value) ⊎ (answer ≡ Err fault.OutOfMemory)
+
 -- ---- the first line that can't stand where it stands
 
 -- some good text begins with these lines
@@ -53,3 +71,8 @@ pub record IsBadLine {Value : Type 0} (Fits : Value → Type 0) (spell : Value �
   pub within : n ≤ length (whole_lines bytes) + 1
   pub before : Begins Fits spell (take (n - 1) (whole_lines bytes))
   pub here : n ≤ length (whole_lines bytes) → Begins Fits spell (take n (whole_lines bytes)) → ⊥
+
+-- The cause of a fault; want of memory has none.
+abbrev pub IsFirstBad : {Value : Type 0} → (Value → Type 0) → (Value → List (List ℕ)) → List ℕ → RunFault → Type 0
+IsFirstBad Fits spell bytes (fault.Line n) = (m : ℕ) × IsBadLine Fits spell bytes m × (n ≡ min m most_line)
+IsFirstBad Fits spell bytes fault.OutOfMemory = Unit {0}

@@ -5,3 +5,9 @@ pub mod Machine
 pub mod Begins
 pub mod Journal
 pub mod ByLines
+pub mod Replies
+pub mod Events
+pub mod Readable
+pub mod Entries
+pub mod JournalMachine
+pub mod CallStub

@@ -5,16 +5,25 @@
 //! (`journal_bytes`) of a history and of a block for each guest.
 #![tactic(auto)]
 
+mod entries;
+mod events;
 mod form;
 mod journal;
+mod journal_machine;
+mod journal_reader;
+mod journals;
 mod limits;
 mod machine;
 mod outcome;
+mod outcomes;
 mod outer;
 mod reader;
+mod replies;
 mod run;
 mod words;
 
 pub use journal::journal_text;
+pub use journal_reader::read_journal;
+pub use journals::{Guests, Journal};
 pub use reader::read_run;
 pub use run::{Blocks, Line, Lines, Named, Run, RunFault, Step, Steps};
