@@ -6,7 +6,7 @@ use Rattle.std.proofs.lemmas.Bool.Decides.{nat_tests}
 use Rattle.std.proofs.lemmas.List.Folds.{list_all-append}
 use Rattle.edge_words.specs.Reading.{◌>>=◌}
 use Rattle.edge_words.proofs.Lines.{lacks}
-use Rattle.edge_journal.specs.declared.run.Line.{Line}
+use Rattle.call_lines.specs.declared.line.Line.{Line}
 use Rattle.edge_journal.specs.declared.run.Step.{Step}
 use Rattle.edge_journal.specs.declared.run.Run.{Run}
 use Rattle.edge_journal.specs.Run.{guest_lines, line_text, step_text, run_lines, AreLinesFrom, AreGuests, AreStepsOf, IsStepOf, IsRun, IsLineAt}

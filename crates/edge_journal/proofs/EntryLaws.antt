@@ -8,12 +8,14 @@ use Rattle.edge_words.specs.Choices.{first_then}
 use Rattle.edge_words.proofs.Laws.{IsLawful, IsWhole, IsNumber, FitBoth, both_lawful}
 use Rattle.edge_words.proofs.ChoiceLaws.{first_then_whole, before_then_whole, made_whole}
 use Rattle.edge_journal.specs.Journal.{entry_words, reply_words}
-use Rattle.edge_journal.specs.CallStub.{IsCall, IsBehind, plain_words, call_in}
+use Rattle.call_lines.specs.Lines.{IsCall, plain_words}
+use Rattle.call_lines.specs.Reading.{call_in}
+use Rattle.call_lines.proofs.TermLaws.{IsBehind}
+use Rattle.call_lines.proofs.CallLaws.{call_law}
 use Rattle.edge_journal.specs.Readable.{IsEntry, IsReply}
 use Rattle.edge_journal.specs.Replies.{reply_in}
 use Rattle.edge_journal.specs.Events.{after_sign}
 use Rattle.edge_journal.specs.Entries.{EntrySaid, entry_of, entry_said, entry_in}
-use Rattle.edge_journal.proofs.CallStubLaws.{call_law}
 use Rattle.edge_journal.proofs.ReplyLaws.{number_words, one_number, reply_law}
 use Rattle.edge_journal.proofs.EventLaws.{IsNothing, sign_words, signed_law, two_numbers}
 
@@ -44,7 +46,7 @@ abbrev asked_words : CacheCall × (Unit {0} × Reply) → List (List ℕ)
 asked_words said = plain_words said.0 ++ answer_words said.1
 
 asked_law : IsWhole asked_words (FitBoth IsCall FitAnswer) (first_then call_in (after_sign reply_in))
-asked_law = before_then_whole IsBehind plain_words IsCall call_in answer_words FitAnswer (after_sign reply_in) call_law answer_law (λ answer. tt)
+asked_law = before_then_whole IsBehind plain_words IsCall call_in answer_words FitAnswer (after_sign reply_in) call_law answer_law (λ answer. refl)
 
 abbrev said_words : EntrySaid → List (List ℕ)
 said_words said = head_words said.0 ++ asked_words said.1

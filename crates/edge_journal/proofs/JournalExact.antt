@@ -18,7 +18,6 @@ use Rattle.edge_journal.specs.Readable.{IsEntry, IsEvent, IsDone, IsReply, IsRea
 use Rattle.edge_journal.specs.ByLines.{told_of, Tells, IsReadAs, IsFirstBad}
 use Rattle.edge_journal.specs.JournalMachine.{machine, spell, lines_to, Stands}
 use Rattle.edge_journal.proofs.ByLines.{IsExact, answer_found, answer_only, answer_line}
-use Rattle.edge_journal.proofs.CallStubLaws.{call_limits}
 use Rattle.edge_journal.proofs.JournalLaws.{takes, begins, ends}
 use Rattle.edge_journal.proofs.JournalAgain.{goes, feed}
 
@@ -41,7 +40,7 @@ reply_seen _ fits = refl
 
 entries_told : (history : List Entry) → AllFit IsEntry history → list_all is_told history ≡ true
 entries_told [] fits = refl
-entries_told (e ∷ history) fits = rw (reply_seen e.reply fits.0.reply, call_limits e.call fits.0.call) (entries_told history fits.1)
+entries_told (e ∷ history) fits = rw (reply_seen e.reply fits.0.reply, fits.0.call.limits) (entries_told history fits.1)
 
 event_told : (e : Event) → IsEvent e → is_event e ≡ true
 event_told (event.Entry number) fits = refl

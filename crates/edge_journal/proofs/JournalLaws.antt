@@ -25,7 +25,7 @@ use Rattle.edge_journal.specs.Events.{number_said, numbers_said, event_rows, eve
 use Rattle.edge_journal.specs.Entries.{entry_in}
 use Rattle.edge_journal.specs.ByLines.{Begins}
 use Rattle.edge_journal.specs.JournalMachine.{Progress, Start, Entries, Block, Between, Over, done_of, is_above, opens_at, opens, most_entries, entry_more, closes_with, closes, after_blocks, over, after_events, after_line, finished, machine, spell, entry_lines, lines_to, AreTold, Stands}
-use Rattle.edge_journal.proofs.Forms.{chosen}
+use Rattle.edge_words.proofs.ChoiceLaws.{chosen}
 use Rattle.edge_journal.proofs.EntryLaws.{entry_law}
 use Rattle.edge_journal.proofs.EventLaws.{number_law, numbers_law, two_numbers, event_law, event_named, outcome_law}
 use Rattle.edge_journal.proofs.ReplyLaws.{number_words}

@@ -1,4 +1,3 @@
-pub mod Forms
 pub mod Told
 pub mod Texts
 pub mod Machines
@@ -9,7 +8,6 @@ pub mod ByLines
 pub mod ReplyLaws
 pub mod EventLaws
 pub mod TicketLaws
-pub mod CallStubLaws
 pub mod LineLaws
 pub mod EntryLaws
 pub mod JournalLaws

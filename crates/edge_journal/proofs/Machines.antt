@@ -7,12 +7,12 @@ use Rattle.std.proofs.lemmas.List.Concat.{flat_map-append}
 use Rattle.std.proofs.lemmas.Option.{cond_some, same_Some}
 use Rattle.edge_words.proofs.Numbers.{same_bytes}
 use Rattle.edge_words.proofs.Laws.{bind_some, map_some}
-use Rattle.edge_journal.specs.declared.run.Line.{Line}
+use Rattle.call_lines.specs.declared.line.Line.{Line}
 use Rattle.edge_journal.specs.declared.run.Step.{Step}
 use Rattle.edge_journal.specs.Run.{guest_lines, block_lines, line_text, step_text, most_steps, IsLineAt, AreLinesFrom, AreGuests, IsStepOf, AreStepsOf}
 use Rattle.edge_journal.specs.Reading.{line_at, step_at}
 use Rattle.edge_journal.specs.Machine.{Progress, Start, Begun, Block, Steps, Over, after_line, after_in_block, after_in_steps, after_all, lines_to, IsProgress, AreCounted}
-use Rattle.edge_journal.proofs.Forms.{chosen}
+use Rattle.call_lines.proofs.References.{chosen}
 use Rattle.edge_journal.proofs.Texts.{line_takes, step_takes}
 
 -- ---- one more

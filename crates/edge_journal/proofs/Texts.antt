@@ -1,18 +1,23 @@
 -- The texts of lines and steps, read back.
-use Rattle.std.proofs.Common.{◌≡◌, ◌≤◌, ℕ, true, false, List, [], ◌∷◌, ◌++◌, refl, sym, ◌∙◌, ap, subst, Option, None, Some, arith}
-use Rattle.std.specs.Prelude.{bytes_eq, codes}
+use Rattle.std.proofs.Common.{◌≡◌, ◌<◌, ◌≤◌, ◌^◌, ℕ, true, false, List, [], ◌∷◌, ◌++◌, refl, sym, ◌∙◌, ap, subst, Option, None, Some, arith}
+use Rattle.std.specs.Prelude.{bytes_eq, codes, decimal}
 use Rattle.std.specs.Option.{option_map}
 use Rattle.std.proofs.lemmas.Option.{cond_some}
 use Rattle.edge_words.specs.Words.{are_words, line_of}
-use Rattle.edge_words.specs.Reading.{one, both, at_end, words_in, number_in, number_from_to}
+use Rattle.edge_words.specs.Reading.{one, both, whole, at_end, words_in, number_in, number_from_to}
 use Rattle.edge_words.proofs.Numbers.{other_bytes}
 use Rattle.edge_words.proofs.Lines.{words_again, words_takes, lacks, line_lacks_feed}
-use Rattle.edge_words.proofs.Laws.{IsWhole, IsNumber, IsFromTo, FitBoth, bind_some, map_some, whole_lawful}
-use Rattle.edge_journal.specs.declared.run.Line.{Line}
+use Rattle.edge_words.proofs.Laws.{IsWhole, IsNumber, IsFromTo, FitBoth, bind_some, map_some, number_codec, number_from_to_codec, one_lawful, both_lawful, whole_lawful}
+use Rattle.edge_words.proofs.Before.{whole_before}
+use Rattle.call_lines.specs.declared.line.Line.{Line}
+use Rattle.call_lines.specs.declared.line.Naming.TheVariants.{Marked}
+use Rattle.call_lines.specs.Lines.{line_words, keeps_limits, IsForm}
+use Rattle.call_lines.specs.Reading.{form_in}
+use Rattle.call_lines.proofs.TermLaws.{IsBehind}
+use Rattle.call_lines.proofs.FormLaws.{form_law, form_again}
 use Rattle.edge_journal.specs.declared.run.Step.{Step}
-use Rattle.edge_journal.specs.Run.{line_words, line_text, step_words, step_text, IsLineAt, IsStepOf, keeps_limits}
-use Rattle.edge_journal.specs.Reading.{form_in, kept_at, line_at, step_of, step_in, step_at}
-use Rattle.edge_journal.proofs.Forms.{form_takes, form_again, number_spell, numbers_lawful}
+use Rattle.edge_journal.specs.Run.{line_text, step_words, step_text, IsLineAt, IsStepOf}
+use Rattle.edge_journal.specs.Reading.{line_in, kept_at, line_at, step_of, step_in, step_at}
 
 -- the words of a line of some visible words are these
 words_of_line : (words : List (List ℕ)) → at_end words ≡ None → are_words words ≡ true → words_in (line_of words) ≡ words
@@ -21,37 +26,46 @@ words_of_line (word ∷ words) some visible = words_again word words visible
 
 -- ---- lines of a block
 
+line_law : IsWhole (line_words Marked) (IsForm Marked) (whole (form_in Marked))
+line_law = whole_before IsBehind (line_words Marked) (IsForm Marked) (form_in Marked) (form_law Marked) refl
+
 pub line_takes : (place : ℕ) (text : List ℕ) (line : Line) → line_at place text ≡ Some line → (text ≡ line_text line) × IsLineAt place line
 line_takes place text line e =
-    let read = bind_some (form_in (words_in text)) (kept_at place) line e in
+    let read = bind_some (line_in text) (kept_at place) line e in
     let kept = cond_some (keeps_limits place read.0) read.0 line read.2 in
-    let found = form_takes (words_in text) read.0 read.1 in
+    let found = line_law.takes (words_in text) read.0 read.1 in
     let P : Line → Type 0 = λ l. (text ≡ line_text l) × IsLineAt place l in
     subst P kept.1 (sym (words_takes text) ∙ ap line_of found.0, record { form = found.1; limits = kept.0 })
 
+line_read : (line : Line) → IsForm Marked line → line_in (line_text line) ≡ Some line
+line_read line fits =
+    let read = form_again Marked line fits in
+    ap (whole (form_in Marked)) (words_of_line (line_words Marked line) read.some read.visible) ∙ line_law.again line fits
+
 pub line_again : (place : ℕ) (line : Line) → IsLineAt place line → line_at place (line_text line) ≡ Some line
-line_again place line fits =
-    let read = form_again line fits.form in
-    rw (words_of_line (line_words line) read.some read.visible, read.again, fits.limits) refl
+line_again place line fits = rw (line_read line fits.form, fits.limits) refl
 
 pub line_feed : (place : ℕ) (line : Line) → IsLineAt place line → lacks 10 (line_text line) ≡ true
-line_feed place line fits = line_lacks_feed (line_words line) (form_again line fits.form).visible
+line_feed place line fits = line_lacks_feed (line_words Marked line) (form_again Marked line fits.form).visible
 
 -- a word that no form begins with is no line
-pub no_line : (place : ℕ) (line : Line) (word : List ℕ) → IsLineAt place line → form_in (words_in word) ≡ None → bytes_eq (line_text line) word ≡ false
-no_line place line word fits none =
-    other_bytes (line_text line) word (λ e.
-    let read = form_again line fits.form in
-    let words = words_of_line (line_words line) read.some read.visible in
-    cc (sym read.again ∙ ap form_in (sym words ∙ ap words_in e) ∙ none))
+pub no_line : (place : ℕ) (line : Line) (word : List ℕ) → IsLineAt place line → line_in word ≡ None → bytes_eq (line_text line) word ≡ false
+no_line place line word fits none = other_bytes (line_text line) word (λ e. cc (sym (line_read line fits.form) ∙ ap line_in e ∙ none))
 
 -- ---- steps
+
+abbrev number_spell : ℕ → List (List ℕ)
+number_spell n = decimal n ∷ []
 
 abbrev step_spell : ℕ × ℕ → List (List ℕ)
 step_spell said = number_spell said.0 ++ number_spell said.1
 
 step_law : (guests : ℕ) → guests ≤ 1000 → IsWhole step_spell (FitBoth IsNumber (IsFromTo 1 guests)) (step_in guests)
-step_law guests few = whole_lawful step_spell (FitBoth IsNumber (IsFromTo 1 guests)) (both (one number_in) (one (number_from_to 1 guests))) (numbers_lawful 1 guests (omega arith))
+step_law guests few =
+    whole_lawful step_spell (FitBoth IsNumber (IsFromTo 1 guests)) (both (one number_in) (one (number_from_to 1 guests)))
+    (both_lawful number_spell IsNumber (one number_in) number_spell (IsFromTo 1 guests) (one (number_from_to 1 guests))
+    (one_lawful decimal IsNumber number_in number_codec)
+    (one_lawful decimal (IsFromTo 1 guests) (number_from_to 1 guests) (number_from_to_codec 1 guests (omega arith))))
 
 pub step_takes : (guests : ℕ) (text : List ℕ) (step : Step) → guests ≤ 1000 → step_at guests text ≡ Some step → (text ≡ step_text step) × IsStepOf guests step
 step_takes guests text step few e =

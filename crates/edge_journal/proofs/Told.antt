@@ -8,12 +8,12 @@ use Rattle.edge_words.specs.Reading.{parts_at, whole_lines, after_lines, all_but
 use Rattle.edge_words.proofs.Laws.{map_some}
 use Rattle.edge_words.proofs.Lines.{not_last}
 use Rattle.edge_words.proofs.Parts.{words_left}
-use Rattle.edge_journal.specs.declared.run.Line.{Line}
+use Rattle.call_lines.specs.declared.line.Line.{Line}
 use Rattle.edge_journal.specs.declared.run.Step.{Step}
 use Rattle.edge_journal.specs.Run.{most_steps}
 use Rattle.edge_journal.specs.Reading.{line_at, step_at}
 use Rattle.edge_journal.specs.Machine.{Progress, Start, Begun, Block, Steps, Over, after_line, after_in_block, after_in_steps, HasFewGuests, told, ok_or_line, finished}
-use Rattle.edge_journal.proofs.Forms.{chosen}
+use Rattle.call_lines.proofs.References.{chosen}
 
 -- a cut takes the first line off
 cut_whole : (rest line after : List ℕ) → parts_at 10 rest ≡ line ∷ parts_at 10 after → (whole_lines rest ≡ line ∷ whole_lines after) × (after_lines rest ≡ after_lines after)

@@ -5,7 +5,7 @@ use Rattle.cache_types.specs.declared.replies.Reply.{Reply}
 use Rattle.cache_types.specs.declared.entries.Entry.{Entry}
 use Rattle.edge_words.specs.Reading.{one, both, number_in}
 use Rattle.edge_words.specs.Choices.{made, first_then}
-use Rattle.edge_journal.specs.CallStub.{call_in}
+use Rattle.call_lines.specs.Reading.{call_in}
 use Rattle.edge_journal.specs.Replies.{reply_in}
 use Rattle.edge_journal.specs.Events.{after_sign}
 

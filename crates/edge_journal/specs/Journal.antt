@@ -18,8 +18,8 @@ use Rattle.cache_types.specs.declared.outer.Event.TheVariants as event
 use Rattle.cache_types.specs.declared.outer.Done.{Done}
 use Rattle.cache_types.specs.Entries.{is_not_yet}
 use Rattle.cache_types.specs.Limits.{is_within_limits}
-use Rattle.edge_words.specs.Words.{hex_word, line_of, text_of}
-use Rattle.edge_journal.specs.Calls.{listed, call_words, named_number}
+use Rattle.edge_words.specs.Words.{hex_word, line_of, text_of, listed}
+use Rattle.call_lines.specs.Calls.{call_words, named_number}
 
 -- ---- entries
 

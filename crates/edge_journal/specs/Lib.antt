@@ -1,4 +1,3 @@
-pub mod Calls
 pub mod Run
 pub mod Reading
 pub mod Machine
@@ -10,4 +9,3 @@ pub mod Events
 pub mod Readable
 pub mod Entries
 pub mod JournalMachine
-pub mod CallStub

@@ -2,7 +2,7 @@
 use Rattle.std.specs.Prelude.{◌≡◌, ◌≤◌, ◌+◌, ℕ, List, [], ◌∷◌, ◌++◌, length, codes, bytes_eq, map, nat_lt, Option, None, Some, Result, Ok, Err, if◌then◌else◌}
 use Rattle.std.specs.Option.{option_map, option_map_or}
 use Rattle.edge_words.specs.Reading.{◌>>=◌}
-use Rattle.edge_journal.specs.declared.run.Line.{Line}
+use Rattle.call_lines.specs.declared.line.Line.{Line}
 use Rattle.edge_journal.specs.declared.run.Step.{Step}
 use Rattle.edge_journal.specs.declared.run.Run.{Run}
 use Rattle.edge_journal.specs.declared.run.RunFault.{RunFault}

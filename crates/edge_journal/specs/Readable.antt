@@ -16,7 +16,7 @@ use Rattle.cache_types.specs.declared.outer.Event.TheVariants as event
 use Rattle.cache_types.specs.declared.outer.Done.{Done}
 use Rattle.edge_words.specs.Reading.{AllFit}
 use Rattle.edge_words.specs.Choices.{FitOption}
-use Rattle.edge_journal.specs.CallStub.{IsCall}
+use Rattle.call_lines.specs.Lines.{IsCall}
 use Rattle.edge_journal.specs.Journal.{is_reply_to, rise}
 use Rattle.edge_journal.specs.declared.journals.Journal.{Journal}
 

@@ -1,32 +1,19 @@
 -- A run file: scripted guests, and the steps of their schedule.
-use Rattle.std.specs.Prelude.{◌≡◌, ◌<◌, ◌≤◌, ◌+◌, ◌^◌, ℕ, Bool, true, ◌&&◌, List, [], ◌∷◌, ◌++◌, length, decimal, codes, map, nat_lt, nat_le, None}
+use Rattle.std.specs.Prelude.{◌≡◌, ◌<◌, ◌≤◌, ◌+◌, ◌^◌, ℕ, true, List, [], ◌∷◌, ◌++◌, length, decimal, codes, map}
 use Rattle.std.specs.List.{flat_map}
-use Rattle.hex.specs.Hex.{IsBytes}
-use Rattle.cache_types.specs.declared.calls.Writing.{Writing}
 use Rattle.cache_types.specs.declared.calls.CacheCall.{CacheCall}
-use Rattle.cache_types.specs.declared.calls.CacheCall.TheVariants.{Lookup, Insert, Write, Finish, Read}
-use Rattle.cache_types.specs.Limits.{is_within_limits}
 use Rattle.edge_words.specs.Words.{line_of, text_of}
-use Rattle.edge_journal.specs.declared.run.Named.{Named}
-use Rattle.edge_journal.specs.declared.run.Named.TheVariants as ref
-use Rattle.edge_journal.specs.declared.run.Line.{Line}
+use Rattle.call_lines.specs.declared.line.Named.{Named}
+use Rattle.call_lines.specs.declared.line.Naming.TheVariants.{Marked}
+use Rattle.call_lines.specs.declared.line.Line.{Line}
+use Rattle.call_lines.specs.Lines.{line_words, IsCallForm, keeps_limits}
 use Rattle.edge_journal.specs.declared.run.Step.{Step}
 use Rattle.edge_journal.specs.declared.run.Run.{Run}
-use Rattle.edge_journal.specs.Calls.{call_words}
 
 -- ---- spelling
 
--- `@n` names an earlier line of the block, `#n` is the number itself
-abbrev pub named_word : Named → List ℕ
-named_word ref.Nothing = []
-named_word (ref.Line n) = 64 ∷ decimal n
-named_word (ref.Number n) = 35 ∷ decimal n
-
-abbrev pub line_words : Line → List (List ℕ)
-line_words line = call_words (named_word line.named) line.call
-
 abbrev pub line_text : Line → List ℕ
-line_text line = line_of (line_words line)
+line_text line = line_of (line_words Marked line)
 
 abbrev pub step_words : Step → List (List ℕ)
 step_words step = decimal step.reading ∷ (decimal step.player ∷ [])
@@ -61,36 +48,9 @@ most_steps = 1000000
 abbrev pub most_bytes : ℕ
 most_bytes = 67108864
 
-abbrev pub IsReference : Named → Type 0
-IsReference ref.Nothing = ⊥
-IsReference (ref.Line n) = n < 2 ^ 64
-IsReference (ref.Number n) = n < 2 ^ 64
-
--- a writing with a maximal age alone
-abbrev pub plain_writing : ℕ → Writing
-plain_writing max_age = record {
-  terms = record { max_age = max_age; initial_age = 0; stale = 0; surrogates = []; metadata = [] };
-  rule = [];
-  length = None;
-}
-
--- the forms of lines that are read: `lookup` and `insert` without options, `write`, `finish` and `read`
+-- a line of a run file
 abbrev pub IsForm : CacheCall → Named → Type 0
-IsForm (Lookup key headers) named = IsBytes key × (headers ≡ []) × (named ≡ ref.Nothing)
-IsForm (Insert key headers writing) named = IsBytes key × (writing.terms.max_age < 2 ^ 64) × (headers ≡ []) × (writing ≡ plain_writing writing.terms.max_age) × (named ≡ ref.Nothing)
-IsForm (Write object piece) named = IsReference named × IsBytes piece × (object ≡ 0)
-IsForm (Finish object) named = IsReference named × (object ≡ 0)
-IsForm (Read hit place most) named = IsReference named × (place < 2 ^ 64) × (1 ≤ most) × (most ≤ 65536) × (hit ≡ 0)
-IsForm _ named = ⊥
-
--- `@n` names a line before the one at this place of the block, counted from 1
-abbrev pub is_before : ℕ → Named → Bool
-is_before place (ref.Line n) = nat_le 1 n && nat_lt n place
-is_before place _ = true
-
--- the limits that a line keeps at its place
-abbrev pub keeps_limits : ℕ → Line → Bool
-keeps_limits place line = is_within_limits line.call && is_before place line.named
+IsForm call named = IsCallForm Marked call named
 
 -- a line that may stand at this place of a block
 pub record IsLineAt (place : ℕ) (line : Line) : Type 0 where

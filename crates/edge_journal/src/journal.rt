@@ -5,8 +5,8 @@ ghost use Rattle.edge_journal.specs.Journal.{length_word, hit_words, reply_words
 
 use crate::outcome::outcome;
 use crate::outer::{outer_name, outer_rest, outer_told};
-use crate::words::call;
 use cache_types::{Done, Entry, Event, History, Hit, Octets, Reply};
+use call_lines::write_call;
 use edge_words::Text;
 use std::alloc::{AllocError, Global};
 
@@ -62,7 +62,7 @@ fn entry_line(alloc: Global, text: Text, entry: &Entry) -> Result<Text, AllocErr
         .first_number(entry.number)?
         .number(entry.guest)?
         .number(entry.moment)?;
-    let asked = call(alloc, head, &entry.call)?.word(b"=")?;
+    let asked = write_call(alloc, head, &entry.call)?.word(b"=")?;
     reply_of(alloc, asked, &entry.reply)?.end_line()
 }
 

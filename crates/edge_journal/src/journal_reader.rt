@@ -65,3 +65,6 @@ pub fn read_journal(alloc: Global, bytes: &[u8]) -> Result<Journal, RunFault>
 {
     read_lines(alloc, bytes)
 }
+
+#[cfg(test)]
+mod tests;

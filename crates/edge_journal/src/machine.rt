@@ -4,7 +4,8 @@ ghost use Rattle.edge_journal.specs.Run.{most_guests};
 ghost use Rattle.edge_journal.specs.Machine.{seen, after_line, after_in_block, after_in_steps, HasFewGuests};
 
 use crate::form::{block_line, schedule_step};
-use crate::run::{Line, Lines, Step};
+use crate::run::{Lines, Step};
+use call_lines::Line;
 use edge_words::LineFault;
 use std::alloc::Global;
 

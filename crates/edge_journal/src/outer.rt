@@ -1,7 +1,6 @@
 ghost use Rattle.std.specs.Prelude.{◌≡◌, ◌++◌, IfOk, decimal, map};
 ghost use Rattle.std.specs.List.{flat_map};
-ghost use Rattle.edge_words.specs.Words.{spaced};
-ghost use Rattle.edge_journal.specs.Calls.{after_comma, listed};
+ghost use Rattle.edge_words.specs.Words.{spaced, after_comma, listed};
 ghost use Rattle.edge_journal.specs.Journal as spec;
 
 use cache_types::{OuterCall, OuterReply};

@@ -2,25 +2,8 @@ ghost use Rattle.std.specs.Prelude.{◌≡◌, min};
 ghost use Rattle.edge_journal.specs.declared.run.RunFault.TheVariants as fault;
 ghost use Rattle.edge_journal.specs.ByLines.{most_line};
 
-use cache_types::{CacheCall, Items};
-
-/// What stands in a line for the entry that its call names.
-#[derive(Clone, Copy, Debug, PartialEq, Eq)]
-pub enum Named {
-    /// The call names no entry.
-    Nothing,
-    /// The entry of an earlier line of the same guest, counted from 1.
-    Line(u64),
-    /// The number itself.
-    Number(u64),
-}
-
-/// One line of a scripted guest. The call has 0 in the place of the entry that it names.
-#[derive(Debug, Drop)]
-pub struct Line {
-    pub call: CacheCall,
-    pub named: Named,
-}
+use cache_types::Items;
+use call_lines::Line;
 
 /// The lines of one guest's block.
 pub type Lines = Items<Line>;

@@ -12,7 +12,7 @@ use Rattle.cache_types.specs.Entries.{is_live, is_begin, is_end, is_not_yet, nex
 use Rattle.cache_types.specs.Limits.{is_within_limits}
 use Rattle.cache_types.specs.Legal.{IsLegalPast, IsNext, IsGuest}
 use Rattle.cache_types.specs.Step.{IsCaller, guest_of, entry_after, reply_after}
-use Rattle.edge_journal.specs.declared.run.Line.{Line}
+use Rattle.call_lines.specs.declared.line.Line.{Line}
 use Rattle.edge_play.specs.Script.{value_of, call_of, name_in, line_call, next_call}
 use Rattle.edge_play.specs.Schedule.{Seat, seat_with, outcome_after}
 use Rattle.edge_play.specs.Blocks.{own, numbers_of, values_of, Follows, IsCut, IsRun, is_script}

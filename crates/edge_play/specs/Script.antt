@@ -4,9 +4,9 @@ use Rattle.cache_types.specs.declared.calls.CacheCall.{CacheCall}
 use Rattle.cache_types.specs.declared.calls.CacheCall.TheVariants.{Begin, TxInsert, TxUpdate, TxCancel, Close, Write, Finish, Abandon, Read, End}
 use Rattle.cache_types.specs.declared.replies.Reply.{Reply}
 use Rattle.cache_types.specs.declared.replies.Reply.TheVariants.{Got, Made}
-use Rattle.edge_journal.specs.declared.run.Named.{Named}
-use Rattle.edge_journal.specs.declared.run.Named.TheVariants as named
-use Rattle.edge_journal.specs.declared.run.Line.{Line}
+use Rattle.call_lines.specs.declared.line.Named.{Named}
+use Rattle.call_lines.specs.declared.line.Named.TheVariants as named
+use Rattle.call_lines.specs.declared.line.Line.{Line}
 
 abbrev pub is_got_or_made : Reply → Bool
 is_got_or_made (Got bits hit) = true

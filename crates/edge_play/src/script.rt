@@ -2,7 +2,8 @@ ghost use Rattle.std.specs.Prelude.{◌≡◌, IfOk};
 ghost use Rattle.edge_play.specs.Script.{is_got_or_made, value_of, name_in, with_name, call_of, line_call, next_call};
 
 use cache_types::{CacheCall, Copied, Reply};
-use edge_journal::{Line, Lines, Named};
+use call_lines::{Line, Named};
+use edge_journal::Lines;
 use std::alloc::{AllocError, Global};
 
 fn is_got_or_made(reply: &Reply) -> bool

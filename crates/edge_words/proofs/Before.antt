@@ -1,6 +1,6 @@
 -- Laws of readings whose words may be left out. Such a reading takes its words again where what follows can't be taken
 -- for one of them.
-use Rattle.std.proofs.Common.{◌≡◌, ℕ, Bool, true, false, not, List, [], ◌∷◌, ◌++◌, length, drop, refl, sym, ◌∙◌, ap, subst, Option, Some, append_assoc}
+use Rattle.std.proofs.Common.{◌≡◌, ℕ, Bool, true, false, not, List, [], ◌∷◌, ◌++◌, length, drop, refl, sym, ◌∙◌, ap, subst, Option, Some, append_assoc, append-nil}
 use Rattle.std.specs.Option.{option_map}
 use Rattle.std.specs.List.{list_all}
 use Rattle.std.proofs.lemmas.List.{take-append-drop}
@@ -8,9 +8,9 @@ use Rattle.std.proofs.lemmas.List.Folds.{list_all-append}
 use Rattle.std.proofs.lemmas.Option.{same_Some}
 use Rattle.std.proofs.Math.Seq.{take-append_seam, drop-append_seam}
 use Rattle.edge_words.specs.Words.{is_word, are_words, is_visible}
-use Rattle.edge_words.specs.Reading.{begins, Avoids, mapped, both}
+use Rattle.edge_words.specs.Reading.{begins, Avoids, mapped, both, whole, at_end}
 use Rattle.edge_words.proofs.Numbers.{same_bytes, bytes_eq_refl}
-use Rattle.edge_words.proofs.Laws.{IsLawful, FitBoth, bind_some, map_some}
+use Rattle.edge_words.proofs.Laws.{IsLawful, IsWhole, FitBoth, bind_some, map_some}
 
 -- The first of some words are read as they are spelled, and read again before words that Rest allows.
 pub record IsLawfulBefore {X : Type 0} (Rest : List (List ℕ) → Type 0) (spell : X → List (List ℕ)) (Fits : X → Type 0) (read : List (List ℕ) → Option (X × List (List ℕ))) : Type 0 where
@@ -112,3 +112,27 @@ begun_word prefix text front back = rw (list_all-append is_visible prefix text, 
 pub avoided : (prefix word : List ℕ) (words : List (List ℕ)) → Avoids (prefix ∷ []) (word ∷ words) → begins prefix word ≡ false
 avoided prefix word words e =
     elim (begins prefix word) as (λ (b : Bool). list_all (λ (q : Bool). not q) (b ∷ []) ≡ true → b ≡ false) [ true ↦ λ e. cc e | false ↦ λ _. refl ] e
+
+-- ---- all words
+
+end_takes : (words : List (List ℕ)) (end : Unit {0}) → at_end words ≡ Some end → words ≡ []
+end_takes [] end e = refl
+end_takes (word ∷ words) end e = cc e
+
+whole_takes : {X : Type 0} (Rest : List (List ℕ) → Type 0) (spell : X → List (List ℕ)) (Fits : X → Type 0) (read : List (List ℕ) → Option (X × List (List ℕ))) → IsLawfulBefore Rest spell Fits read → (words : List (List ℕ)) (x : X) → whole read words ≡ Some x → (words ≡ spell x) × Fits x
+whole_takes {X} Rest spell Fits read law words x e =
+    let a = bind_some (read words) _ x e in
+    let end = bind_some (at_end a.0.1) _ x a.2 in
+    let front = law.takes words a.0 a.1 in
+    let P : X → Type 0 = λ y. (words ≡ spell y) × Fits y in
+    subst P (same_Some _ _ end.2) (
+      front.0 ∙ ap (λ (rest : List (List ℕ)). spell a.0.0 ++ rest) (end_takes a.0.1 end.0 end.1) ∙ append-nil (spell a.0.0),
+      front.1,
+    )
+
+pub whole_before : {X : Type 0} (Rest : List (List ℕ) → Type 0) (spell : X → List (List ℕ)) (Fits : X → Type 0) (read : List (List ℕ) → Option (X × List (List ℕ))) → IsLawfulBefore Rest spell Fits read → Rest [] → IsWhole spell Fits (whole read)
+whole_before Rest spell Fits read law none = record {
+  takes = whole_takes Rest spell Fits read law;
+  again = λ x fits. ap (whole read) (sym (append-nil (spell x))) ∙ rw (law.again x [] fits none) refl;
+  words = law.words;
+}

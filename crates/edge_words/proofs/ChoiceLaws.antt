@@ -14,7 +14,7 @@ use Rattle.edge_words.proofs.Before.{IsLawfulBefore, before_all}
 use Rattle.edge_words.proofs.Laws.{IsCodec, IsLawful, IsWhole, FitBoth, bind_some, map_some}
 
 -- which way a test went
-chosen : {A : Type 0} (b : Bool) (x y z : A) → cond b x y ≡ z → ((b ≡ true) × (x ≡ z)) ⊎ ((b ≡ false) × (y ≡ z))
+pub chosen : {A : Type 0} (b : Bool) (x y z : A) → cond b x y ≡ z → ((b ≡ true) × (x ≡ z)) ⊎ ((b ≡ false) × (y ≡ z))
 chosen true x y z e = inl (refl, e)
 chosen false x y z e = inr (refl, e)
 

@@ -1,7 +1,7 @@
 use Rattle.std.proofs.Common.{◌≡◌, ◌++◌, take, map}
 use Rattle.std.specs.Prelude.{decimal}
 use Rattle.std.specs.List.{flat_map}
-use Rattle.edge_journal.specs.Calls.{after_comma}
+use Rattle.edge_words.specs.Words.{after_comma}
 use Rattle.edge_journal.proofs.outer.more_numbers.Given as goal
 
 abbrev pub invariant-loop-number : goal.invariant-loop-number

@@ -1,0 +1,10 @@
+pub mod Written
+pub mod Loops
+pub mod References
+pub mod Fields
+pub mod Optionals
+pub mod TermLaws
+pub mod Behind
+pub mod OneForm
+pub mod FormLaws
+pub mod CallLaws

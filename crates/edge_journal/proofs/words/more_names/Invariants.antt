@@ -1,7 +1,0 @@
-use Rattle.std.proofs.Common.{◌≡◌, ◌++◌, take}
-use Rattle.std.specs.List.{flat_map}
-use Rattle.edge_journal.specs.Calls.{after_comma}
-use Rattle.edge_journal.proofs.words.more_names.Given as goal
-
-abbrev pub invariant-loop-name : goal.invariant-loop-name
-invariant-loop-name l = l.written ≡ l.fn.text ++ flat_map after_comma (take l.name-index l.names)
