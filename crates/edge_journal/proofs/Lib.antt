@@ -4,3 +4,12 @@ pub mod Machines
 pub mod Again
 pub mod Found
 pub mod Written
+pub mod ByLines
+pub mod ReplyLaws
+pub mod EventLaws
+pub mod TicketLaws
+pub mod LineLaws
+pub mod EntryLaws
+pub mod JournalLaws
+pub mod JournalAgain
+pub mod JournalExact

@@ -3,3 +3,9 @@ pub mod Reading
 pub mod Machine
 pub mod Begins
 pub mod Journal
+pub mod ByLines
+pub mod Replies
+pub mod Events
+pub mod Readable
+pub mod Entries
+pub mod JournalMachine

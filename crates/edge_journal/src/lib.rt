@@ -5,14 +5,23 @@
 //! (`journal_bytes`) of a history and of a block for each guest.
 #![tactic(auto)]
 
+mod entries;
+mod events;
 mod form;
 mod journal;
+mod journal_machine;
+mod journal_reader;
+mod journals;
 mod machine;
 mod outcome;
+mod outcomes;
 mod outer;
 mod reader;
+mod replies;
 mod run;
 
 pub use journal::journal_text;
+pub use journal_reader::read_journal;
+pub use journals::{Guests, Journal};
 pub use reader::read_run;
 pub use run::{Blocks, Lines, Run, RunFault, Step, Steps};

@@ -1,3 +1,7 @@
+ghost use Rattle.std.specs.Prelude.{◌≡◌, min};
+ghost use Rattle.edge_journal.specs.declared.run.RunFault.TheVariants as fault;
+ghost use Rattle.edge_journal.specs.ByLines.{most_line};
+
 use cache_types::Items;
 use call_lines::Line;
 
@@ -30,4 +34,14 @@ pub enum RunFault {
     /// The first line that can't stand where it stands, counted from 1.
     Line(u32),
     OutOfMemory,
+}
+
+/// The fault of a line, whose number stands still at the greatest that can be told.
+pub fn bad_line(number: usize) -> RunFault
+    ensures { result ≡ fault.Line (min number most_line) }
+{
+    match u32::try_from(number) {
+        Ok(number) => RunFault::Line(number),
+        Err(_) => RunFault::Line(u32::MAX),
+    }
 }

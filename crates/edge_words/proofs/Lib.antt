@@ -5,3 +5,4 @@ pub mod Laws
 pub mod Before
 pub mod Options
 pub mod Commas
+pub mod ChoiceLaws

@@ -5,6 +5,7 @@
 //! writes them.
 #![tactic(auto)]
 
+mod choices;
 mod cuts;
 mod fault;
 mod text;

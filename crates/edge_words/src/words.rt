@@ -2,6 +2,7 @@ ghost use Rattle.std.specs.Prelude.{◌≡◌, ◌≤◌, IfOk};
 ghost use Rattle.std.specs.Option.{option_map};
 ghost use Rattle.edge_words.specs.Words.{line_of};
 ghost use Rattle.edge_words.specs.Reading.{Gives, one, optional, as_word, at_end, number_in, number_from_to, hex_in, prefixed, words_in};
+ghost use Rattle.edge_words.specs.Choices.{no_words};
 
 use crate::{LineFault, cut, read_hex, read_number};
 use std::alloc::Global;
@@ -89,6 +90,16 @@ impl<'a> Words<'a> {
         let (word, words) = self.word()?;
         let bytes = read_hex(alloc, word)?;
         Ok((bytes, words))
+    }
+
+    /// Whether no word is left.
+    pub fn is_empty(&self) -> bool
+        ensures { result ≡ no_words self.now }
+    {
+        match self.rest {
+            Some(_) => false,
+            None => true,
+        }
     }
 
     /// What stands after the prefix in the next word, where that begins so, and the words after it. Any other word is
