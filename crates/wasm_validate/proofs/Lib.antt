@@ -1,0 +1,9 @@
+pub mod Taking
+pub mod Results
+pub mod Flat
+pub mod Images
+pub mod Sizes
+pub mod Agreement
+pub mod Lows
+pub mod Loops
+pub mod Once

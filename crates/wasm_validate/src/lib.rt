@@ -1,0 +1,21 @@
+//! Whether a WebAssembly module is valid (chapter 3 of the WebAssembly Core Specification 1.0).
+//!
+//! So far there is the check of a function's body, [`check_body`]: it tells the first fault of the flat list of
+//! instructions. That list nests in one way only ([`nests_once`]), is checked as the nested instructions are
+//! ([`scanned_as_nested`]), and has no fault exactly where these are typed and keep the limit on the height of
+//! operands ([`checked_as_typed`]). The other parts of a module aren't checked yet.
+#![tactic(auto)]
+
+mod bodies;
+mod checker;
+mod fault;
+mod instructions;
+mod laws;
+mod operands;
+mod setting;
+mod stack;
+
+pub use bodies::check_body;
+pub use fault::{Halt, Part, Stop, ValidFault, ValidKind};
+pub use laws::{checked_as_typed, nests_once, scanned_as_nested};
+pub use setting::Setting;
