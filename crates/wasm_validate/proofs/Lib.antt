@@ -7,3 +7,4 @@ pub mod Agreement
 pub mod Lows
 pub mod Loops
 pub mod Once
+pub mod PartByPart

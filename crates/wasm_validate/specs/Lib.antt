@@ -6,3 +6,7 @@ pub mod Typing
 pub mod Scanning
 pub mod Walking
 pub mod Faults
+pub mod Spaces
+pub mod Valid
+pub mod Parts
+pub mod Ready

@@ -13,7 +13,7 @@ use wasm_types::{Convert, Instr, LoadKind, StoreKind, Value, ValueType};
 
 type Labels = Stack<Option<ValueType>>;
 
-fn type_of(value: &Value) -> ValueType
+pub fn type_of(value: &Value) -> ValueType
     ensures { result ≡ type_of value.now }
 {
     match value {

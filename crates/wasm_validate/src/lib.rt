@@ -8,11 +8,15 @@
 
 mod bodies;
 mod checker;
+mod code;
+mod constants;
 mod fault;
 mod instructions;
 mod laws;
 mod operands;
+mod parts;
 mod setting;
+mod spaces;
 mod stack;
 
 pub use bodies::check_body;

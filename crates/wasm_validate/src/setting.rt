@@ -7,6 +7,7 @@ use std::marker::Model;
 use wasm_types::{FuncType, GlobalType, ValueType};
 
 /// What code stands in (section 3.1.1). A function is the index of its type.
+#[derive(Drop)]
 pub struct Setting<'a> {
     pub types: &'a [FuncType],
     pub functions: &'a [u32],
