@@ -8,3 +8,4 @@ pub mod Lows
 pub mod Loops
 pub mod Once
 pub mod PartByPart
+pub mod Sized

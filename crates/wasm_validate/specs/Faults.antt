@@ -1,7 +1,9 @@
 -- The first fault of a module, and where it stands.
-use Rattle.std.specs.Prelude.{◌≡◌, ℕ, min, Result, Ok, Err}
+use Rattle.std.specs.Prelude.{◌≡◌, ◌⊎◌, ℕ, min, Result, Ok, Err}
 use Rattle.wasm_validate.specs.declared.fault.ValidKind.{ValidKind}
+use Rattle.wasm_validate.specs.declared.fault.ValidKind.TheVariants.{OutOfMemory}
 use Rattle.wasm_validate.specs.declared.fault.Part.{Part}
+use Rattle.wasm_validate.specs.declared.fault.Part.TheVariants as parts
 use Rattle.wasm_validate.specs.declared.fault.ValidFault.{ValidFault}
 use Rattle.wasm_validate.specs.declared.fault.Stop.{Stop}
 use Rattle.wasm_validate.specs.declared.fault.Stop.TheVariants as stops
@@ -32,3 +34,15 @@ Refuses (halts.Fault fault) check = check ≡ Err fault
 abbrev pub Tells : {X Y : Type 0} → (X → Y) → Result X Halt → Result Y ValidFault → Type 0
 Tells view (Ok x) check = check ≡ Ok (view x)
 Tells view (Err e) check = Refuses e check
+
+-- The same of a call that tells want of memory as a fault.
+abbrev pub memory_fault : ValidFault
+memory_fault = record { kind = OutOfMemory; part = parts.Import; index = 0; at = 0 }
+
+abbrev pub told_of : Halt → ValidFault
+told_of halts.Memory = memory_fault
+told_of (halts.Fault fault) = fault
+
+abbrev pub Answers : {X Y : Type 0} → (X → Y) → Result X ValidFault → Result Y ValidFault → Type 0
+Answers view (Ok x) check = check ≡ Ok (view x)
+Answers view (Err fault) check = (fault ≡ memory_fault) ⊎ (check ≡ Err fault)

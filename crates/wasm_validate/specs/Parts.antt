@@ -164,20 +164,55 @@ inside c t code = record c { locals = t.params ++ code.locals; result = t.result
 abbrev pub code_at : Setting → ℕ → List ℕ → ℕ → Code → Result (Unit {0}) ValidFault
 code_at c first own k code = in_part parts.Code (first + k) (told 0 (body_type c own k) >>= λ t. scan code.body (inside c t code) (Some (outset t.result)))
 
+-- ---- all items of a part
+
+unfoldable pub imports_at : List FuncType → List Import → Result (Unit {0}) ValidFault
+imports_at types imports = every parts.Import (λ _ i. import_type types i.kind) imports
+
+unfoldable pub functions_at : List FuncType → List ℕ → Result (Unit {0}) ValidFault
+functions_at types functions = every parts.Func (λ _ t. needs (nat_lt t (length types)) UnknownType) functions
+
+unfoldable pub globals_at : List GlobalType → List GlobalItem → Result (Unit {0}) ValidFault
+globals_at globals items = every parts.Global (λ _ g. constant globals g.kind.kind g.start) items
+
+unfoldable pub exports_at : Setting → List Export → Result (Unit {0}) ValidFault
+exports_at c all = every parts.Export (export_at c all) all
+
+unfoldable pub elements_at : Setting → List Element → Result (Unit {0}) ValidFault
+elements_at c items = every parts.Element (λ _ e. element c e) items
+
+unfoldable pub bodies_at : Setting → ℕ → List ℕ → List Code → Result (Unit {0}) ValidFault
+bodies_at c first own code = each (code_at c first own) 0 code
+
+unfoldable pub segments_at : Setting → List Segment → Result (Unit {0}) ValidFault
+segments_at c items = every parts.Data (λ _ s. segment c s) items
+
 -- ---- the whole module
+
+-- the parts that are checked in the whole module, not in its types alone
+abbrev pub later_fault : Setting → ℕ → Module → Result (Unit {0}) ValidFault
+later_fault c first m =
+    exports_at c m.exports >>= λ _.
+    start_at c m.start >>= λ _.
+    elements_at c m.elements >>= λ _.
+    bodies_at c first m.functions m.code >>= λ _.
+    segments_at c m.segments
+
+-- how many tables there are, how many memories
+unfoldable pub tables_at : Module → Result ℕ ValidFault
+tables_at m = sizes parts.Import 4294967296 0 0 (sizes_in exports.Table m.imports) >>= λ n. sizes parts.Table 4294967296 0 n (all_present m.tables)
+
+unfoldable pub memories_at : Module → Result ℕ ValidFault
+memories_at m = sizes parts.Import 65536 0 0 (sizes_in exports.Memory m.imports) >>= λ n. sizes parts.Memory 65536 0 n (all_present m.memories)
+
+abbrev pub rest_fault : Module → Result (Unit {0}) ValidFault
+rest_fault m =
+    globals_at (globals_in m.imports) m.globals >>= λ _. later_fault (setting_of m [] None) (length (functions_in m.imports)) m
 
 abbrev pub first_fault : Module → Result (Unit {0}) ValidFault
 first_fault m =
-    let c = setting_of m [] None in
-    every parts.Import (λ _ i. import_type m.types i.kind) m.imports >>= λ _.
-    every parts.Func (λ _ t. needs (nat_lt t (length m.types)) UnknownType) m.functions >>= λ _.
-    sizes parts.Import 4294967296 0 0 (sizes_in exports.Table m.imports) >>= λ n.
-    sizes parts.Table 4294967296 0 n (all_present m.tables) >>= λ _.
-    sizes parts.Import 65536 0 0 (sizes_in exports.Memory m.imports) >>= λ n.
-    sizes parts.Memory 65536 0 n (all_present m.memories) >>= λ _.
-    every parts.Global (λ _ g. constant (globals_in m.imports) g.kind.kind g.start) m.globals >>= λ _.
-    every parts.Export (export_at c m.exports) m.exports >>= λ _.
-    start_at c m.start >>= λ _.
-    every parts.Element (λ _ e. element c e) m.elements >>= λ _.
-    each (code_at c (length (functions_in m.imports)) m.functions) 0 m.code >>= λ _.
-    every parts.Data (λ _ s. segment c s) m.segments
+    imports_at m.types m.imports >>= λ _.
+    functions_at m.types m.functions >>= λ _.
+    tables_at m >>= λ _.
+    memories_at m >>= λ _.
+    rest_fault m

@@ -3,7 +3,7 @@
 ghost use Rattle.std.specs.Prelude.{◌+◌, ◌≤◌, length};
 ghost use Rattle.wasm_validate.specs.Faults.{Tells};
 ghost use Rattle.wasm_validate.specs.Steps.{Gives};
-ghost use Rattle.wasm_validate.specs.Parts.{each, code_at, body_type};
+ghost use Rattle.wasm_validate.specs.Parts.{bodies_at, code_at, body_type};
 
 use crate::bodies::check_body;
 use crate::fault::{Halt, Part, Stop, ValidKind, halt_in};
@@ -51,6 +51,7 @@ fn check_function(
 }
 
 /// The bodies of the functions that the module defines.
+#[tactic(auto, unfolding(crate::specs::Parts::bodies_at))]
 pub fn check_code(
     alloc: Global,
     setting: &Setting,
@@ -59,7 +60,7 @@ pub fn check_code(
     code: &[Code],
 ) -> Result<(), Halt>
     requires { first + length code.now ≤ usize.MAX }
-    ensures { Tells (λ x. x) result (each (code_at setting.now first own.now) 0 code.now) }
+    ensures { Tells (λ x. x) result (bodies_at setting.now first own.now code.now) }
 {
     for (i, item) in code.iter().enumerate() {
         check_function(alloc, setting, first, own, i, item)?;

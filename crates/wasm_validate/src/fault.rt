@@ -2,7 +2,7 @@
 
 ghost use Rattle.std.specs.Prelude.{◌≡◌};
 ghost use Rattle.wasm_validate.specs.declared.fault.Stop.TheVariants.{Memory};
-ghost use Rattle.wasm_validate.specs.Faults.{no_memory, fault_in, halt_in};
+ghost use Rattle.wasm_validate.specs.Faults.{no_memory, fault_in, halt_in, told_of};
 
 use std::alloc::{AllocError, AllocFailed};
 
@@ -127,5 +127,20 @@ pub fn halt_in(part: Part, index: usize, stop: Stop, at: usize) -> Halt
     match stop {
         Stop::Memory => Halt::Memory,
         Stop::Fault(kind) => Halt::Fault(fault_in(part, index, kind, at)),
+    }
+}
+
+/// The fault that is told of a halt. Want of memory has the first part, and place 0.
+pub fn told_of(halt: Halt) -> ValidFault
+    ensures { result ≡ told_of halt }
+{
+    match halt {
+        Halt::Memory => ValidFault {
+            kind: ValidKind::OutOfMemory,
+            part: Part::Import,
+            index: 0,
+            at: 0,
+        },
+        Halt::Fault(fault) => fault,
     }
 }

@@ -2,12 +2,11 @@
 
 ghost use Rattle.std.specs.Prelude.{◌≡◌, ℕ, ◌≤◌, nat_lt, length};
 ghost use Rattle.wasm_types.specs.declared.types.ValueType.TheVariants.{I32};
-ghost use Rattle.wasm_validate.specs.declared.fault.ValidKind.TheVariants.{UnknownType};
 ghost use Rattle.wasm_validate.specs.declared.fault.Part.TheVariants as parts;
 ghost use Rattle.wasm_validate.specs.Steps.{Gives};
 ghost use Rattle.wasm_validate.specs.Faults.{Tells};
 ghost use Rattle.wasm_validate.specs.Spaces.{sizes_in};
-ghost use Rattle.wasm_validate.specs.Parts.{needs, every, import_type, within, sizes, all_present, constant, count_in, unknown, any_named, export_at, start, start_at, gives_nothing, all_below, element, segment};
+ghost use Rattle.wasm_validate.specs.Parts.{imports_at, functions_at, globals_at, exports_at, elements_at, segments_at, import_type, within, sizes, all_present, constant, count_in, unknown, any_named, start, start_at, gives_nothing, all_below, element, segment};
 
 use crate::constants::constant;
 use crate::fault::{Halt, Part, Stop, ValidKind, fault_in, halt_in};
@@ -35,8 +34,9 @@ fn import_type(types: &[FuncType], kind: ImportKind) -> Result<(), Stop>
 }
 
 /// The types of imported functions.
+#[tactic(auto, unfolding(crate::specs::Parts::imports_at))]
 pub fn check_imports(types: &[FuncType], imports: &[Import]) -> Result<(), Halt>
-    ensures { Tells (λ x. x) result (every parts.Import (λ _ i. import_type types.now i.kind) imports.now) }
+    ensures { Tells (λ x. x) result (imports_at types.now imports.now) }
 {
     for (i, import) in imports.iter().enumerate() {
         if let Err(stop) = import_type(types, import.kind) {
@@ -47,8 +47,9 @@ pub fn check_imports(types: &[FuncType], imports: &[Import]) -> Result<(), Halt>
 }
 
 /// The types of the functions that the module defines.
+#[tactic(auto, unfolding(crate::specs::Parts::functions_at))]
 pub fn check_functions(types: &[FuncType], functions: &[u32]) -> Result<(), Halt>
-    ensures { Tells (λ x. x) result (every parts.Func (λ _ t. needs (nat_lt t (length types.now)) UnknownType) functions.now) }
+    ensures { Tells (λ x. x) result (functions_at types.now functions.now) }
 {
     for (i, index) in functions.iter().enumerate() {
         if types.len() <= *index as usize {
@@ -107,12 +108,13 @@ pub fn check_sizes(part: Part, range: u64, imported: usize, all: &[Limits]) -> R
 }
 
 /// The first values of globals.
+#[tactic(auto, unfolding(crate::specs::Parts::globals_at))]
 pub fn check_globals(
     alloc: Global,
     globals: &[GlobalType],
     items: &[GlobalItem],
 ) -> Result<(), Halt>
-    ensures { Tells (λ x. x) result (every parts.Global (λ _ g. constant globals.now g.kind.kind g.start) items.now) }
+    ensures { Tells (λ x. x) result (globals_at globals.now items.now) }
 {
     for (i, item) in items.iter().enumerate() {
         if let Err(stop) = constant(alloc, globals, item.kind.kind, item.start.items()) {
@@ -156,8 +158,9 @@ fn any_named(name: &[u8], exports: &[Export]) -> bool
 }
 
 /// What is exported, and under which names.
+#[tactic(auto, unfolding(crate::specs::Parts::exports_at))]
 pub fn check_exports(setting: &Setting, exports: &[Export]) -> Result<(), Halt>
-    ensures { Tells (λ x. x) result (every parts.Export (export_at setting.now exports.now) exports.now) }
+    ensures { Tells (λ x. x) result (exports_at setting.now exports.now) }
 {
     for (i, export) in exports.iter().enumerate() {
         if count_in(setting, export.kind) <= export.index as usize {
@@ -230,8 +233,9 @@ fn element(alloc: Global, setting: &Setting, item: &Element) -> Result<(), Stop>
 }
 
 /// The element segments.
+#[tactic(auto, unfolding(crate::specs::Parts::elements_at))]
 pub fn check_elements(alloc: Global, setting: &Setting, items: &[Element]) -> Result<(), Halt>
-    ensures { Tells (λ x. x) result (every parts.Element (λ _ e. element setting.now e) items.now) }
+    ensures { Tells (λ x. x) result (elements_at setting.now items.now) }
 {
     for (i, item) in items.iter().enumerate() {
         if let Err(stop) = element(alloc, setting, item) {
@@ -251,8 +255,9 @@ fn segment(alloc: Global, setting: &Setting, item: &Segment) -> Result<(), Stop>
 }
 
 /// The data segments.
+#[tactic(auto, unfolding(crate::specs::Parts::segments_at))]
 pub fn check_segments(alloc: Global, setting: &Setting, items: &[Segment]) -> Result<(), Halt>
-    ensures { Tells (λ x. x) result (every parts.Data (λ _ s. segment setting.now s) items.now) }
+    ensures { Tells (λ x. x) result (segments_at setting.now items.now) }
 {
     for (i, item) in items.iter().enumerate() {
         if let Err(stop) = segment(alloc, setting, item) {
