@@ -9,3 +9,7 @@ pub mod Loops
 pub mod Once
 pub mod PartByPart
 pub mod Sized
+pub mod ConstantExpressions
+pub mod Sizing
+pub mod Members
+pub mod Truth

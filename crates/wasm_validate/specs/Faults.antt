@@ -43,6 +43,11 @@ abbrev pub told_of : Halt → ValidFault
 told_of halts.Memory = memory_fault
 told_of (halts.Fault fault) = fault
 
-abbrev pub Answers : {X Y : Type 0} → (X → Y) → Result X ValidFault → Result Y ValidFault → Type 0
-Answers view (Ok x) check = check ≡ Ok (view x)
-Answers view (Err fault) check = (fault ≡ memory_fault) ⊎ (check ≡ Err fault)
+abbrev pub Answers : {X : Type 0} → Result X ValidFault → Result (Unit {0}) ValidFault → Type 0
+Answers (Ok x) check = check ≡ Ok tt
+Answers (Err fault) check = (fault ≡ memory_fault) ⊎ (check ≡ Err fault)
+
+-- no fault was told but want of memory
+abbrev pub Passes : {X : Type 0} → Result X ValidFault → Type 0
+Passes (Ok x) = Unit {0}
+Passes (Err fault) = fault ≡ memory_fault

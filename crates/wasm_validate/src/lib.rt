@@ -1,9 +1,12 @@
 //! Whether a WebAssembly module is valid (chapter 3 of the WebAssembly Core Specification 1.0).
 //!
-//! So far [`check_module`] checks the parts of a module in their order, and tells the first fault as `specs/Parts.antt`
-//! says. What that means is proved of bodies: a flat list nests in one way only ([`nests_once`]), is checked as the
-//! nested instructions are ([`scanned_as_nested`]), and has no fault exactly where these are typed and keep the limit
-//! on the height of operands ([`checked_as_typed`]).
+//! [`validate`] answers with a [`Valid`] exactly where the module is valid (`specs/Valid.antt`; the types of nested
+//! instructions are in `specs/Typing.antt`) and no more than 1,024 operands stand at once, and else tells the first
+//! fault by its kind, part, index and instruction (`specs/Parts.antt`).
+//!
+//! Code is checked with the stacks of the specification's appendix. That this is a check of nested instructions is
+//! told by the laws: a flat list nests in one way only ([`nests_once`]), its first fault is that of the nested
+//! instructions ([`scanned_as_nested`]), and these have none exactly where they are typed ([`checked_as_typed`]).
 #![tactic(auto)]
 
 mod bodies;
@@ -19,9 +22,8 @@ mod parts;
 mod setting;
 mod spaces;
 mod stack;
+mod valid;
 
-pub use bodies::check_body;
-pub use fault::{Halt, Part, Stop, ValidFault, ValidKind};
+pub use fault::{Part, ValidFault, ValidKind};
 pub use laws::{checked_as_typed, nests_once, scanned_as_nested};
-pub use module::check_module;
-pub use setting::Setting;
+pub use valid::{Valid, validate};
