@@ -5,7 +5,7 @@ use Rattle.cache_types.specs.declared.entries.Entry.{Entry}
 use Rattle.cache_types.specs.declared.outer.Outcome.{Outcome}
 use Rattle.cache_types.specs.declared.outer.Outcome.TheVariants as outcome
 use Rattle.cache_types.specs.declared.outer.Done.{Done}
-use Rattle.edge_journal.specs.declared.run.Line.{Line}
+use Rattle.call_lines.specs.declared.line.Line.{Line}
 use Rattle.edge_journal.specs.declared.run.Step.{Step}
 use Rattle.edge_play.specs.Schedule.{Turn, World, seat_at, turned, start_of, closed, blocks_from}
 

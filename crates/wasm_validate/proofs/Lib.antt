@@ -1,0 +1,15 @@
+pub mod Taking
+pub mod Results
+pub mod Flat
+pub mod Images
+pub mod Sizes
+pub mod Agreement
+pub mod Lows
+pub mod Loops
+pub mod Once
+pub mod PartByPart
+pub mod Sized
+pub mod ConstantExpressions
+pub mod Sizing
+pub mod Members
+pub mod Truth

@@ -1,0 +1,9 @@
+use Rattle.std.proofs.Common.{◌≡◌, drop, length, ltb}
+use Rattle.wasm_types.specs.declared.types.ValueType.TheVariants.{I32}
+use Rattle.wasm_validate.specs.declared.fault.ValidKind.TheVariants.{UnknownType}
+use Rattle.wasm_validate.specs.declared.fault.Part.TheVariants as parts
+use Rattle.wasm_validate.specs.Parts.{needs, each, placed, segment}
+use Rattle.wasm_validate.proofs.parts.check_segments.Given as goal
+
+abbrev pub invariant-loop-i : goal.invariant-loop-i
+invariant-loop-i l = each (placed parts.Data (λ _ s. segment l.setting s)) l.i (drop l.i l.items) ≡ each (placed parts.Data (λ _ s. segment l.setting s)) 0 l.items

@@ -1,0 +1,12 @@
+pub mod Lists
+pub mod Steps
+pub mod Rules
+pub mod Operands
+pub mod Typing
+pub mod Scanning
+pub mod Walking
+pub mod Faults
+pub mod Spaces
+pub mod Valid
+pub mod Parts
+pub mod Ready
