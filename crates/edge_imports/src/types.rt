@@ -1,0 +1,112 @@
+ghost use Rattle.std.specs.Prelude.{◌≡◌, ◌++◌, slice_get};
+ghost use Rattle.std.specs.Option.{option_copied};
+ghost use Rattle.std.specs.List.{filter_map};
+ghost use Rattle.edge_imports.specs.Table.{row_of};
+ghost use Rattle.edge_imports.specs.Links.{is_same, are_same, is_same_result, is_of_row, is_of, is_plain, type_at, imported_type, function_types};
+
+use crate::hostcall::Hostcall;
+use wasm_types::{FuncType, Import, ImportKind, Module, ValueType};
+
+fn is_same(one: ValueType, other: ValueType) -> bool
+    ensures { result ≡ is_same one other }
+{
+    matches!(
+        (one, other),
+        (ValueType::I32, ValueType::I32) | (ValueType::I64, ValueType::I64)
+    )
+}
+
+/// Whether two rows of value types are the same. It ends with the shorter one.
+fn are_same(ones: &[ValueType], others: &[ValueType]) -> bool
+    ensures { result ≡ are_same ones.now others.now }
+{
+    match (ones.split_first(), others.split_first()) {
+        (None, None) => true,
+        (Some((one, ones)), Some((other, others))) => is_same(*one, *other)
+            && are_same(ones, others),
+        _ => false,
+    }
+}
+
+fn is_same_result(one: Option<ValueType>, other: Option<ValueType>) -> bool
+    ensures { result ≡ is_same_result one other }
+{
+    match (one, other) {
+        (None, None) => true,
+        (Some(one), Some(other)) => is_same(one, other),
+        _ => false,
+    }
+}
+
+/// Whether the function type is that of the call.
+pub fn is_of(call: Hostcall, function: Option<&FuncType>) -> bool
+    ensures { result ≡ is_of (row_of call) (option_copied function.entry) }
+{
+    match function {
+        None => false,
+        Some(function) => {
+            let row = call.row();
+            are_same(function.params.items(), row.params)
+                && is_same_result(function.result, row.result)
+        }
+    }
+}
+
+/// Whether the function has neither parameters nor a result.
+pub fn is_plain(function: Option<&FuncType>) -> bool
+    ensures { result ≡ is_plain (option_copied function.entry) }
+{
+    match function {
+        None => false,
+        Some(function) => {
+            are_same(function.params.items(), &[]) && is_same_result(function.result, None)
+        }
+    }
+}
+
+/// The index of an imported function's type.
+pub fn imported_type(kind: ImportKind) -> Option<u32>
+    ensures { result ≡ imported_type kind }
+{
+    match kind {
+        ImportKind::Function(function) => Some(function),
+        _ => None,
+    }
+}
+
+/// The type at an index.
+pub fn type_at(types: &[FuncType], index: Option<u32>) -> Option<&FuncType>
+    ensures { option_copied result ≡ type_at types.now index }
+{
+    match index {
+        None => None,
+        Some(index) => types.get(index as usize),
+    }
+}
+
+/// The index of the type of a function that is imported, or else defined.
+fn type_among(imports: &[Import], functions: &[u32], index: u32) -> Option<u32>
+    ensures { result ≡ slice_get (filter_map (λ i. imported_type i.kind) imports.now ++ functions.now) index }
+{
+    let mut left = index as usize;
+    for import in imports {
+        if let Some(function) = imported_type(import.kind) {
+            if left == 0 {
+                return Some(function);
+            }
+            left -= 1;
+        }
+    }
+    match functions.get(left) {
+        Some(function) => Some(*function),
+        None => None,
+    }
+}
+
+/// The type of a function.
+pub fn function_type(module: &Module, index: u32) -> Option<&FuncType>
+    ensures { option_copied result ≡ type_at module.now.types (slice_get (function_types module.now) index) }
+{
+    let function = type_among(module.imports.items(), module.functions.items(), index);
+    type_at(module.types.items(), function)
+}
