@@ -10,7 +10,8 @@ use Rattle.call_lines.specs.declared.line.Line.{Line}
 use Rattle.edge_journal.specs.declared.run.Step.{Step}
 use Rattle.edge_journal.specs.declared.run.Run.{Run}
 use Rattle.edge_journal.specs.Run.{guest_lines, line_text, step_text, run_lines, AreLinesFrom, AreGuests, AreStepsOf, IsStepOf, IsRun, IsLineAt}
-use Rattle.edge_journal.specs.Machine.{Progress, Start, Begun, Block, Steps, Over, after_line, after_all}
+use Rattle.edge_journal.specs.ByLines.{after_all}
+use Rattle.edge_journal.specs.Machine.{Progress, Start, Begun, Block, Steps, Over, after_line, machine}
 use Rattle.edge_journal.proofs.Texts.{line_again, line_feed, no_line, step_again, step_feed, no_step}
 
 lt-test : (a b : ℕ) → a < b → nat_lt a b ≡ true
@@ -22,52 +23,52 @@ line_goes : (closed : List (List Line)) (opened : List Line) (line : Line) → I
 line_goes closed opened line fits =
     rw (no_line (length opened + 1) line (codes "guest") fits refl, no_line (length opened + 1) line (codes "steps") fits refl, line_again (length opened + 1) line fits) refl
 
-lines_go : (closed : List (List Line)) (opened more : List Line) (rest : List (List ℕ)) → AreLinesFrom (length opened + 1) more → after_all (Block closed opened) (map line_text more ++ rest) ≡ after_all (Block closed (opened ++ more)) rest
-lines_go closed opened [] rest fits = ap (λ (ls : List Line). after_all (Block closed ls) rest) (sym (append-nil opened))
+lines_go : (closed : List (List Line)) (opened more : List Line) (rest : List (List ℕ)) → AreLinesFrom (length opened + 1) more → after_all machine (Block closed opened) (map line_text more ++ rest) ≡ after_all machine (Block closed (opened ++ more)) rest
+lines_go closed opened [] rest fits = ap (λ (ls : List Line). after_all machine (Block closed ls) rest) (sym (append-nil opened))
 lines_go closed opened (line ∷ more) rest fits =
     let P : ℕ → Type 0 = λ p. AreLinesFrom p more in
     let next : length opened + 1 + 1 ≡ length (opened ++ line ∷ []) + 1 = omega (arith, length-append opened (line ∷ [])) in
-    ap (λ (o : Option Progress). o >>= λ q. after_all q (map line_text more ++ rest)) (line_goes closed opened line fits.0)
+    ap (λ (o : Option Progress). o >>= λ q. after_all machine q (map line_text more ++ rest)) (line_goes closed opened line fits.0)
     ∙ lines_go closed (opened ++ line ∷ []) more rest (subst P next fits.1)
-    ∙ ap (λ (ls : List Line). after_all (Block closed ls) rest) (append_assoc opened (line ∷ []) more)
+    ∙ ap (λ (ls : List Line). after_all machine (Block closed ls) rest) (append_assoc opened (line ∷ []) more)
 
 -- ---- the blocks
 
-guest_goes : (closed : List (List Line)) (opened : List Line) (lines : List (List ℕ)) → length closed + 1 < 1000 → after_all (Block closed opened) (codes "guest" ∷ lines) ≡ after_all (Block (closed ++ opened ∷ []) []) lines
+guest_goes : (closed : List (List Line)) (opened : List Line) (lines : List (List ℕ)) → length closed + 1 < 1000 → after_all machine (Block closed opened) (codes "guest" ∷ lines) ≡ after_all machine (Block (closed ++ opened ∷ []) []) lines
 guest_goes closed opened lines room = rw (lt-test (length closed + 1) 1000 room) refl
 
-guests_go : (closed : List (List Line)) (opened : List Line) (blocks : List (List Line)) (rest : List (List ℕ)) → AreGuests blocks → length closed + 1 + length blocks ≤ 1000 → after_all (Block closed opened) (guest_lines blocks ++ (codes "steps" ∷ rest)) ≡ after_all (Steps (closed ++ opened ∷ blocks) []) rest
+guests_go : (closed : List (List Line)) (opened : List Line) (blocks : List (List Line)) (rest : List (List ℕ)) → AreGuests blocks → length closed + 1 + length blocks ≤ 1000 → after_all machine (Block closed opened) (guest_lines blocks ++ (codes "steps" ∷ rest)) ≡ after_all machine (Steps (closed ++ opened ∷ blocks) []) rest
 guests_go closed opened [] rest fits few = refl
 guests_go closed opened (block ∷ blocks) rest fits few =
     let more = length-append closed (opened ∷ []) in
     guest_goes closed opened ((map line_text block ++ guest_lines blocks) ++ (codes "steps" ∷ rest)) (omega arith)
-    ∙ ap (after_all (Block (closed ++ opened ∷ []) [])) (append_assoc (map line_text block) (guest_lines blocks) (codes "steps" ∷ rest))
+    ∙ ap (after_all machine (Block (closed ++ opened ∷ []) [])) (append_assoc (map line_text block) (guest_lines blocks) (codes "steps" ∷ rest))
     ∙ lines_go (closed ++ opened ∷ []) [] block (guest_lines blocks ++ (codes "steps" ∷ rest)) fits.0
     ∙ guests_go (closed ++ opened ∷ []) block blocks rest fits.1 (omega (arith, more))
-    ∙ ap (λ (gs : List (List Line)). after_all (Steps gs []) rest) (append_assoc closed (opened ∷ []) (block ∷ blocks))
+    ∙ ap (λ (gs : List (List Line)). after_all machine (Steps gs []) rest) (append_assoc closed (opened ∷ []) (block ∷ blocks))
 
-begun_goes : (guests : List (List Line)) (rest : List (List ℕ)) → AreGuests guests → length guests ≤ 1000 → after_all Begun (guest_lines guests ++ (codes "steps" ∷ rest)) ≡ after_all (Steps guests []) rest
+begun_goes : (guests : List (List Line)) (rest : List (List ℕ)) → AreGuests guests → length guests ≤ 1000 → after_all machine Begun (guest_lines guests ++ (codes "steps" ∷ rest)) ≡ after_all machine (Steps guests []) rest
 begun_goes [] rest fits few = refl
 begun_goes (block ∷ blocks) rest fits few =
-    ap (after_all (Block [] [])) (append_assoc (map line_text block) (guest_lines blocks) (codes "steps" ∷ rest))
+    ap (after_all machine (Block [] [])) (append_assoc (map line_text block) (guest_lines blocks) (codes "steps" ∷ rest))
     ∙ lines_go [] [] block (guest_lines blocks ++ (codes "steps" ∷ rest)) fits.0
     ∙ guests_go [] block blocks rest fits.1 (omega arith)
 
 -- ---- the steps
 
-step_goes : (guests : List (List Line)) (done : List Step) (step : Step) (lines : List (List ℕ)) → length guests ≤ 1000 → length done < 1000000 → IsStepOf (length guests) step → after_all (Steps guests done) (step_text step ∷ lines) ≡ after_all (Steps guests (done ++ step ∷ [])) lines
+step_goes : (guests : List (List Line)) (done : List Step) (step : Step) (lines : List (List ℕ)) → length guests ≤ 1000 → length done < 1000000 → IsStepOf (length guests) step → after_all machine (Steps guests done) (step_text step ∷ lines) ≡ after_all machine (Steps guests (done ++ step ∷ [])) lines
 step_goes guests done step lines few room fits =
     rw (no_step (length guests) step few fits, lt-test (length done) 1000000 room, step_again (length guests) step few fits) refl
 
-steps_go : (guests : List (List Line)) (done steps : List Step) (rest : List (List ℕ)) → length guests ≤ 1000 → length done + length steps ≤ 1000000 → AreStepsOf (length guests) steps → after_all (Steps guests done) (map step_text steps ++ rest) ≡ after_all (Steps guests (done ++ steps)) rest
-steps_go guests done [] rest few room fits = ap (λ (ss : List Step). after_all (Steps guests ss) rest) (sym (append-nil done))
+steps_go : (guests : List (List Line)) (done steps : List Step) (rest : List (List ℕ)) → length guests ≤ 1000 → length done + length steps ≤ 1000000 → AreStepsOf (length guests) steps → after_all machine (Steps guests done) (map step_text steps ++ rest) ≡ after_all machine (Steps guests (done ++ steps)) rest
+steps_go guests done [] rest few room fits = ap (λ (ss : List Step). after_all machine (Steps guests ss) rest) (sym (append-nil done))
 steps_go guests done (step ∷ steps) rest few room fits =
     let more = length-append done (step ∷ []) in
     step_goes guests done step (map step_text steps ++ rest) few (omega arith) fits.0
     ∙ steps_go guests (done ++ step ∷ []) steps rest few (omega (arith, more)) fits.1
-    ∙ ap (λ (ss : List Step). after_all (Steps guests ss) rest) (append_assoc done (step ∷ []) steps)
+    ∙ ap (λ (ss : List Step). after_all machine (Steps guests ss) rest) (append_assoc done (step ∷ []) steps)
 
-pub run_goes : (run : Run) → IsRun run → after_all Start (run_lines run) ≡ Some (Over run.guests run.steps)
+pub run_goes : (run : Run) → IsRun run → after_all machine Start (run_lines run) ≡ Some (Over run.guests run.steps)
 run_goes run fits =
     begun_goes run.guests (map step_text run.steps ++ codes "end" ∷ []) fits.guests fits.few_guests
     ∙ steps_go run.guests [] run.steps (codes "end" ∷ []) fits.few_guests (omega (arith, fits.few_steps)) fits.steps

@@ -1,5 +1,5 @@
 -- A machine that reads exactly the good texts tells the first line that can't stand where it stands.
-use Rattle.std.proofs.Common.{◌≡◌, ◌<◌, ◌≤◌, ◌+◌, ◌-◌, ℕ, suc, true, List, [], ◌∷◌, ◌++◌, length, take, refl, sym, ◌∙◌, ap, subst, Option, None, Some, Result, Ok, Err, arith, ◌⊎◌, inl, inr, append_assoc, append-nil}
+use Rattle.std.proofs.Common.{◌≡◌, ◌<◌, ◌≤◌, ◌+◌, ◌-◌, ℕ, suc, true, List, [], ◌∷◌, ◌++◌, length, take, refl, sym, ◌∙◌, ap, subst, Option, None, Some, Result, Ok, Err, arith, inl, inr, append_assoc, append-nil}
 use Rattle.std.specs.Option.{option_map_or}
 use Rattle.std.specs.Result.{IfOk, IfErr}
 use Rattle.std.specs.List.{list_all}

@@ -1,5 +1,5 @@
 -- Entries are read as they are spelled.
-use Rattle.std.proofs.Common.{◌≡◌, ℕ, List, [], ◌∷◌, ◌++◌, refl}
+use Rattle.std.proofs.Common.{◌≡◌, ℕ, List, ◌++◌, refl}
 use Rattle.cache_types.specs.declared.calls.CacheCall.{CacheCall}
 use Rattle.cache_types.specs.declared.replies.Reply.{Reply}
 use Rattle.cache_types.specs.declared.entries.Entry.{Entry}

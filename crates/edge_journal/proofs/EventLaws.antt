@@ -1,14 +1,12 @@
 -- Events and outcomes are read as they are spelled.
-use Rattle.std.proofs.Common.{◌≡◌, ◌<◌, ◌^◌, ◌+◌, ◌%◌, ℕ, Bool, true, false, not, List, [], ◌∷◌, ◌++◌, refl, sym, ◌∙◌, ap, subst, Result, Option, None, Some, arith, lit<, map}
+use Rattle.std.proofs.Common.{◌≡◌, ◌<◌, ◌^◌, ◌+◌, ◌%◌, ℕ, Bool, true, false, not, List, [], ◌∷◌, ◌++◌, refl, sym, ap, subst, Result, Option, None, Some, arith, lit<}
 use Rattle.std.specs.Prelude.{bytes_eq, decimal, codes, ◌==◌}
 use Rattle.std.specs.Option.{option_map}
-use Rattle.std.specs.List.{list_all}
 use Rattle.std.proofs.lemmas.Bool.Decides.{nat_tests}
 use Rattle.std.proofs.lemmas.Fmt.{decimal_by_steps}
 use Rattle.std.proofs.lemmas.List.Folds.{list_all-append}
 use Rattle.std.proofs.lemmas.Option.{same_Some}
 use Rattle.hex.specs.Hex.{IsBytes}
-use Rattle.cache_types.specs.declared.outer.OuterCall.{OuterCall}
 use Rattle.cache_types.specs.declared.outer.OuterCall.TheVariants as outer
 use Rattle.cache_types.specs.declared.outer.OuterReply.{OuterReply}
 use Rattle.cache_types.specs.declared.outer.OuterReply.TheVariants as told
@@ -20,16 +18,16 @@ use Rattle.cache_types.specs.declared.outer.Event.{Event}
 use Rattle.cache_types.specs.declared.outer.Event.TheVariants as event
 use Rattle.edge_words.specs.Words.{are_words}
 use Rattle.edge_words.specs.declared.fault.LineFault.{LineFault}
-use Rattle.edge_words.specs.Reading.{Gives, as_word, AllFit, one, both, number_in, hex_in, listed_in}
-use Rattle.edge_words.specs.Choices.{in_row, by_name, made, first_then, exactly, number_or, number_or_word}
+use Rattle.edge_words.specs.Reading.{Gives, as_word, one, both, number_in, hex_in, listed_in}
+use Rattle.edge_words.specs.Choices.{in_row, by_name, made, exactly, number_or, number_or_word}
 use Rattle.edge_words.proofs.Lines.{lacks}
 use Rattle.edge_words.proofs.Laws.{IsLawful, IsWhole, IsNumber, IsFromTo, FitBoth, number_codec, number_from_to_codec, one_lawful, both_lawful, whole_lawful}
-use Rattle.edge_words.proofs.Commas.{IsPart, SomeFit, listed_word, listed_codec}
-use Rattle.edge_words.proofs.ChoiceLaws.{RowsTake, RowTakes, made_row, alone_row, first_then_whole, by_name_takes, by_name_whole, exactly_codec, IsNumberBelow, number_or_codec, no_digits}
-use Rattle.edge_journal.specs.Journal.{event_words, outcome_words, trap_word, told_words, close_word, is_reply_to}
-use Rattle.edge_journal.specs.Readable.{IsU64, IsEvent, IsOutcome, IsTold}
+use Rattle.edge_words.proofs.Commas.{SomeFit, listed_word, listed_codec}
+use Rattle.edge_words.proofs.ChoiceLaws.{RowsTake, made_row, alone_row, first_then_whole, by_name_whole, exactly_codec, IsNumberBelow, number_or_codec, no_digits}
+use Rattle.edge_journal.specs.Journal.{event_words, outcome_words, trap_word, close_word}
+use Rattle.edge_journal.specs.Readable.{IsEvent, IsOutcome}
 use Rattle.edge_journal.specs.Replies.{bytes_said}
-use Rattle.edge_journal.specs.Events.{small_in, small_said, number_said, numbers_said, two_said, sign, after_sign, polled_rows, waited_rows, started_in, started_of, now_said, now_of, start_said, start_of, poll_said, poll_of, wait_said, wait_of, any_said, any_of, head_of, piece_of, closed, close_rows, log_of, event_rows, event_in, trap_rows, trap_in, trapped_of, timeout_of, outcome_rows, outcome_in}
+use Rattle.edge_journal.specs.Events.{small_in, small_said, number_said, numbers_said, two_said, sign, after_sign, polled_rows, waited_rows, started_in, now_said, now_of, start_said, start_of, poll_said, poll_of, wait_said, wait_of, any_said, any_of, head_of, piece_of, closed, close_rows, log_of, event_rows, event_in, trap_rows, trap_in, trapped_of, timeout_of, outcome_rows, outcome_in}
 use Rattle.edge_journal.proofs.ReplyLaws.{number_words, one_number, hex_words, one_hex, bytes_law}
 
 -- ---- numbers and bytes

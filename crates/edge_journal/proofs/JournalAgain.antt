@@ -1,12 +1,11 @@
 -- The machine takes each journal, whose lines have no line feed in them.
-use Rattle.std.proofs.Common.{◌≡◌, ◌<◌, ◌^◌, ℕ, Bool, true, false, List, [], ◌∷◌, ◌++◌, length, map, refl, sym, ◌∙◌, ap, subst, Option, None, Some, append_assoc, append-nil, ◌+◌, nat_lt, arith, length-append}
-use Rattle.std.specs.Prelude.{bytes_eq, codes, decimal, ◌==◌, IsTrue}
+use Rattle.std.proofs.Common.{◌≡◌, ◌<◌, ◌^◌, ℕ, true, List, [], ◌∷◌, ◌++◌, length, map, refl, sym, ◌∙◌, ap, subst, Option, None, Some, append_assoc, append-nil, ◌+◌, nat_lt, arith, length-append}
+use Rattle.std.specs.Prelude.{codes, decimal, ◌==◌}
 use Rattle.std.specs.Option.{option_map}
 use Rattle.std.specs.List.{flat_map, list_all}
 use Rattle.std.proofs.lemmas.Bool.Decides.{nat_tests}
 use Rattle.std.proofs.lemmas.List.Folds.{list_all-append}
 use Rattle.cache_types.specs.declared.entries.Entry.{Entry}
-use Rattle.cache_types.specs.declared.outer.OuterCall.{OuterCall}
 use Rattle.cache_types.specs.declared.outer.OuterCall.TheVariants as outer
 use Rattle.cache_types.specs.declared.outer.Event.{Event}
 use Rattle.cache_types.specs.declared.outer.Event.TheVariants as event
@@ -15,9 +14,9 @@ use Rattle.edge_words.specs.Reading.{AllFit, at_end, words_in, ◌>>=◌}
 use Rattle.edge_words.specs.Choices.{by_name}
 use Rattle.edge_words.proofs.Lines.{lacks, line_lacks_feed}
 use Rattle.edge_journal.specs.declared.journals.Journal.{Journal}
-use Rattle.edge_journal.specs.Journal.{entry_words, entry_text, event_text, event_words, outcome_words, guest_text, over_text, done_lines, end_text, journal_lines, rise}
+use Rattle.edge_journal.specs.Journal.{entry_words, entry_text, event_text, event_words, outcome_words, guest_text, over_text, done_lines, end_text, rise}
 use Rattle.edge_journal.specs.Readable.{IsEntry, IsEvent, IsDone, IsReadable}
-use Rattle.edge_journal.specs.Events.{number_said, numbers_said, event_rows, event_in, outcome_in}
+use Rattle.edge_journal.specs.Events.{event_rows, event_in}
 use Rattle.edge_journal.specs.Entries.{entry_in}
 use Rattle.edge_journal.specs.ByLines.{after_all}
 use Rattle.edge_journal.specs.JournalMachine.{Progress, Start, Entries, Block, Between, Over, entry_more, is_above, after_blocks, after_events, after_line, finished, machine, spell}

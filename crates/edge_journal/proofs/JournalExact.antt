@@ -1,6 +1,6 @@
 -- What is told of a journal, in the words of the texts alone.
-use Rattle.std.proofs.Common.{◌≡◌, ℕ, true, List, [], ◌∷◌, refl, sym, ◌∙◌, ap, Result, Ok, Err}
-use Rattle.std.specs.Prelude.{◌&&◌, not}
+use Rattle.std.proofs.Common.{◌≡◌, ℕ, true, List, [], ◌∷◌, refl, Result, Ok, Err}
+use Rattle.std.specs.Prelude.{not}
 use Rattle.std.specs.List.{list_all}
 use Rattle.std.specs.Result.{IfOk, IfErr}
 use Rattle.cache_types.specs.declared.entries.Entry.{Entry}

@@ -1,8 +1,7 @@
 -- The machine of journals takes exactly what a journal is spelled as.
-use Rattle.std.proofs.Common.{◌≡◌, ◌<◌, ◌^◌, ℕ, Bool, true, false, ◌&&◌, nat_lt, List, [], ◌∷◌, ◌++◌, length, map, refl, sym, ◌∙◌, ap, subst, Option, None, Some, ◌⊎◌, inl, inr, append_assoc, append-nil, arith, lit<, length-append, slice_index_or, zero, suc, ◌+◌}
-use Rattle.std.specs.Prelude.{bytes_eq, codes, decimal, ◌==◌, IsTrue}
-use Rattle.std.specs.Option.{option_map}
-use Rattle.std.specs.List.{flat_map, list_all}
+use Rattle.std.proofs.Common.{◌≡◌, ◌<◌, ◌^◌, ℕ, true, nat_lt, List, [], ◌∷◌, ◌++◌, length, map, refl, sym, ◌∙◌, ap, subst, Option, None, Some, ◌⊎◌, inl, inr, append_assoc, append-nil, arith, lit<, length-append, slice_index_or, zero, suc, ◌+◌}
+use Rattle.std.specs.Prelude.{bytes_eq, codes, ◌==◌}
+use Rattle.std.specs.List.{flat_map}
 use Rattle.std.proofs.lemmas.Bool.{eqb-true, ltb-true}
 use Rattle.std.proofs.lemmas.Bool.Decides.{nat_tests}
 use Rattle.std.proofs.lemmas.List.{map-append}
@@ -19,12 +18,12 @@ use Rattle.edge_words.proofs.Numbers.{same_bytes, both_true}
 use Rattle.edge_words.proofs.Laws.{bind_some, map_some}
 use Rattle.edge_words.proofs.Lines.{words_takes}
 use Rattle.edge_journal.specs.declared.journals.Journal.{Journal}
-use Rattle.edge_journal.specs.Journal.{entry_words, entry_text, event_text, event_words, outcome_words, guest_text, over_text, done_lines, end_text, journal_lines, rise}
+use Rattle.edge_journal.specs.Journal.{entry_words, entry_text, event_text, outcome_words, guest_text, over_text, done_lines, end_text, journal_lines, rise}
 use Rattle.edge_journal.specs.Readable.{IsEntry, IsEvent, IsDone, IsOutcome, IsReadable}
-use Rattle.edge_journal.specs.Events.{number_said, numbers_said, event_rows, event_in, outcome_in}
+use Rattle.edge_journal.specs.Events.{number_said, numbers_said, event_in, outcome_in}
 use Rattle.edge_journal.specs.Entries.{entry_in}
 use Rattle.edge_journal.specs.ByLines.{Begins}
-use Rattle.edge_journal.specs.JournalMachine.{Progress, Start, Entries, Block, Between, Over, done_of, is_above, opens_at, opens, most_entries, entry_more, closes_with, closes, after_blocks, over, after_events, after_line, finished, machine, spell, entry_lines, lines_to, AreTold, Stands}
+use Rattle.edge_journal.specs.JournalMachine.{Progress, Start, Entries, Block, Between, Over, done_of, is_above, opens_at, most_entries, entry_more, closes_with, after_blocks, after_events, after_line, finished, spell, entry_lines, lines_to, AreTold, Stands}
 use Rattle.edge_words.proofs.ChoiceLaws.{chosen}
 use Rattle.edge_journal.proofs.EntryLaws.{entry_law}
 use Rattle.edge_journal.proofs.EventLaws.{number_law, numbers_law, two_numbers, event_law, event_named, outcome_law}

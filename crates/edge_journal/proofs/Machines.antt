@@ -6,12 +6,12 @@ use Rattle.std.proofs.lemmas.List.{map-append}
 use Rattle.std.proofs.lemmas.List.Concat.{flat_map-append}
 use Rattle.std.proofs.lemmas.Option.{cond_some, same_Some}
 use Rattle.edge_words.proofs.Numbers.{same_bytes}
-use Rattle.edge_words.proofs.Laws.{bind_some, map_some}
+use Rattle.edge_words.proofs.Laws.{map_some}
 use Rattle.call_lines.specs.declared.line.Line.{Line}
 use Rattle.edge_journal.specs.declared.run.Step.{Step}
 use Rattle.edge_journal.specs.Run.{guest_lines, block_lines, line_text, step_text, most_steps, IsLineAt, AreLinesFrom, AreGuests, IsStepOf, AreStepsOf}
 use Rattle.edge_journal.specs.Reading.{line_at, step_at}
-use Rattle.edge_journal.specs.Machine.{Progress, Start, Begun, Block, Steps, Over, after_line, after_in_block, after_in_steps, after_all, lines_to, IsProgress, AreCounted}
+use Rattle.edge_journal.specs.Machine.{Progress, Start, Begun, Block, Steps, Over, after_line, after_in_block, after_in_steps, lines_to, IsProgress, AreCounted}
 use Rattle.call_lines.proofs.References.{chosen}
 use Rattle.edge_journal.proofs.Texts.{line_takes, step_takes}
 
@@ -147,7 +147,7 @@ begun_takes line q e =
           ]
     ]
 
-line_takes_on : (p q : Progress) (line : List ℕ) → IsProgress p → after_line p line ≡ Some q → Takes p line q
+pub line_takes_on : (p q : Progress) (line : List ℕ) → IsProgress p → after_line p line ≡ Some q → Takes p line q
 line_takes_on Start q line fits e =
     let P : Progress → Type 0 = λ q. Takes Start line q in
     let found = cond_some (bytes_eq line (codes "edge-run 1")) Begun q e in
@@ -156,13 +156,3 @@ line_takes_on Begun q line fits e = begun_takes line q e
 line_takes_on (Block closed opened) q line fits e = block_takes closed opened line q fits e
 line_takes_on (Steps guests steps) q line fits e = steps_takes guests steps line q fits e
 line_takes_on (Over guests steps) q line fits e = cc e
-
-pub lines_take : (p q : Progress) (lines : List (List ℕ)) → IsProgress p → after_all p lines ≡ Some q → IsProgress q × (lines_to q ≡ lines_to p ++ lines)
-lines_take p q [] fits e =
-    let P : Progress → Type 0 = λ q. IsProgress q × (lines_to q ≡ lines_to p ++ []) in
-    subst P (same_Some _ _ e) (fits, sym (append-nil (lines_to p)))
-lines_take p q (line ∷ lines) fits e =
-    let first = bind_some (after_line p line) (λ next. after_all next lines) q e in
-    let taken = line_takes_on p first.0 line fits first.1 in
-    let rest = lines_take first.0 q lines taken.0 first.2 in
-    (rest.0, rest.1 ∙ ap (λ (ls : List (List ℕ)). ls ++ lines) taken.1 ∙ append_assoc (lines_to p) (line ∷ []) lines)

@@ -7,8 +7,8 @@ use Rattle.cache_types.specs.declared.replies.Hit.{Hit}
 use Rattle.cache_types.specs.declared.replies.Reply.{Reply}
 use Rattle.cache_types.specs.declared.replies.Reply.TheVariants as reply
 use Rattle.edge_words.specs.Words.{are_words, hex_word}
-use Rattle.edge_words.specs.Reading.{one, both, whole, number_in, number_from_to, hex_in}
-use Rattle.edge_words.specs.Choices.{by_name, made, first_then, if_any, if_any_words, number_or, number_or_word, FitOption}
+use Rattle.edge_words.specs.Reading.{one, number_in, number_from_to, hex_in}
+use Rattle.edge_words.specs.Choices.{made, if_any, if_any_words, number_or, number_or_word, FitOption}
 use Rattle.edge_words.proofs.Laws.{IsLawful, IsWhole, IsNumber, IsFromTo, FitBoth, number_codec, number_from_to_codec, hex_codec, one_lawful, both_lawful, whole_lawful}
 use Rattle.edge_words.proofs.ChoiceLaws.{RowsTake, made_row, alone_row, first_then_whole, if_any_whole, made_whole, by_name_whole, IsNumberBelow, number_or_codec, no_digits}
 use Rattle.edge_journal.specs.Journal.{length_word, hit_words, reply_words}

@@ -1,5 +1,5 @@
 -- The numbers of a word, read one after another.
-use Rattle.std.proofs.Common.{◌≡◌, ℕ, List, [], ◌∷◌, ◌++◌, refl, sym, ◌∙◌, ap, Option, None, Some, append_assoc}
+use Rattle.std.proofs.Common.{◌≡◌, ℕ, List, [], ◌∷◌, ◌++◌, refl, sym, ap, Option, None, Some, append_assoc}
 use Rattle.std.specs.Option.{option_map}
 use Rattle.edge_words.specs.Reading.{parts_at, each, listed_in, number_in}
 

@@ -1,42 +1,15 @@
--- The machine over the lines that are left of a text.
-use Rattle.std.proofs.Common.{◌≡◌, ◌≤◌, ◌+◌, ℕ, List, [], ◌∷◌, ◌++◌, length, ◌∙◌, ap, subst, Option, None, Some, Err, arith, inl, inr, lit≤, length-append}
+-- Guests stay few, line by line.
+use Rattle.std.proofs.Common.{◌≡◌, ◌≤◌, ◌+◌, ℕ, List, [], ◌∷◌, ◌++◌, length, subst, Some, arith, inl, inr, lit≤, length-append}
 use Rattle.std.specs.Prelude.{nat_lt, bytes_eq, codes}
-use Rattle.std.specs.Option.{option_map_or}
 use Rattle.std.proofs.lemmas.Bool.{ltb-true}
 use Rattle.std.proofs.lemmas.Option.{cond_some, same_Some}
-use Rattle.edge_words.specs.Reading.{parts_at, whole_lines, after_lines, all_but_last, last_of}
 use Rattle.edge_words.proofs.Laws.{map_some}
-use Rattle.edge_words.proofs.Lines.{not_last}
-use Rattle.edge_words.proofs.Parts.{words_left}
 use Rattle.call_lines.specs.declared.line.Line.{Line}
 use Rattle.edge_journal.specs.declared.run.Step.{Step}
 use Rattle.edge_journal.specs.Run.{most_steps}
 use Rattle.edge_journal.specs.Reading.{line_at, step_at}
-use Rattle.edge_journal.specs.Machine.{Progress, Start, Begun, Block, Steps, Over, after_line, after_in_block, after_in_steps, HasFewGuests, told, ok_or_line, finished}
+use Rattle.edge_journal.specs.Machine.{Progress, Start, Begun, Block, Steps, Over, after_line, after_in_block, after_in_steps, HasFewGuests}
 use Rattle.call_lines.proofs.References.{chosen}
-
--- a cut takes the first line off
-cut_whole : (rest line after : List ℕ) → parts_at 10 rest ≡ line ∷ parts_at 10 after → (whole_lines rest ≡ line ∷ whole_lines after) × (after_lines rest ≡ after_lines after)
-cut_whole rest line after e =
-    let more = not_last line (parts_at 10 after) (words_left 10 after) in
-    (ap all_but_last e ∙ more.0, ap last_of e ∙ more.1)
-
-told_next : (n : ℕ) (p : Progress) (rest line after : List ℕ) → parts_at 10 rest ≡ line ∷ parts_at 10 after → told n p (whole_lines rest) (after_lines rest) ≡ option_map_or (λ next. told (n + 1) next (whole_lines after) (after_lines after)) (after_line p line) (Err n)
-told_next n p rest line after e =
-    let parts = cut_whole rest line after e in
-    ap (λ (lines : List (List ℕ)). told n p lines (after_lines rest)) parts.0 ∙ ap (λ (tail : List ℕ). told n p (line ∷ whole_lines after) tail) parts.1
-
-pub told_goes : (n : ℕ) (p q : Progress) (rest line after : List ℕ) → parts_at 10 rest ≡ line ∷ parts_at 10 after → after_line p line ≡ Some q → told n p (whole_lines rest) (after_lines rest) ≡ told (n + 1) q (whole_lines after) (after_lines after)
-told_goes n p q rest line after e goes =
-    told_next n p rest line after e ∙ ap (λ (o : Option Progress). option_map_or (λ next. told (n + 1) next (whole_lines after) (after_lines after)) o (Err n)) goes
-
-pub told_bad : (n : ℕ) (p : Progress) (rest line after : List ℕ) → parts_at 10 rest ≡ line ∷ parts_at 10 after → after_line p line ≡ None → told n p (whole_lines rest) (after_lines rest) ≡ Err n
-told_bad n p rest line after e stuck =
-    told_next n p rest line after e ∙ ap (λ (o : Option Progress). option_map_or (λ next. told (n + 1) next (whole_lines after) (after_lines after)) o (Err n)) stuck
-
-pub told_end : (n : ℕ) (p : Progress) (rest : List ℕ) → parts_at 10 rest ≡ rest ∷ [] → told n p (whole_lines rest) (after_lines rest) ≡ ok_or_line n (finished p rest)
-told_end n p rest e =
-    ap (λ (lines : List (List ℕ)). told n p lines (after_lines rest)) (ap all_but_last e) ∙ ap (λ (tail : List ℕ). told n p [] tail) (ap last_of e)
 
 -- guests stay few
 few_in_block : (closed : List (List Line)) (opened : List Line) (line : List ℕ) (q : Progress) → length closed + 1 ≤ 1000 → after_in_block closed opened line ≡ Some q → HasFewGuests q

@@ -1,5 +1,5 @@
 -- A journal line by line.
-use Rattle.std.specs.Prelude.{◌≡◌, ℕ, Bool, true, List, [], ◌∷◌, ◌++◌, length, codes, bytes_eq, map, nat_lt, ◌==◌, Option, None, Some, if◌then◌else◌, IsTrue}
+use Rattle.std.specs.Prelude.{ℕ, Bool, true, List, [], ◌∷◌, ◌++◌, length, codes, bytes_eq, map, nat_lt, ◌==◌, Option, None, Some, if◌then◌else◌, IsTrue}
 use Rattle.std.specs.List.{flat_map}
 use Rattle.std.specs.Option.{option_map}
 use Rattle.cache_types.specs.declared.entries.Entry.{Entry}
@@ -11,8 +11,8 @@ use Rattle.edge_words.specs.Reading.{AllFit, words_in, ◌>>=◌}
 use Rattle.edge_journal.specs.declared.journals.Journal.{Journal}
 use Rattle.edge_journal.specs.declared.journal_machine.Stage.{Stage}
 use Rattle.edge_journal.specs.declared.journal_machine.Stage.TheVariants as stage
-use Rattle.edge_journal.specs.Journal.{entry_text, event_text, done_lines, guest_text, end_text, journal_lines, rise}
-use Rattle.edge_journal.specs.Readable.{IsEntry, IsEvent, IsU64, IsReadable}
+use Rattle.edge_journal.specs.Journal.{entry_text, event_text, done_lines, guest_text, journal_lines}
+use Rattle.edge_journal.specs.Readable.{IsEvent, IsU64, IsReadable}
 use Rattle.edge_journal.specs.Entries.{entry_in}
 use Rattle.edge_journal.specs.Events.{event_in, outcome_in, number_said, numbers_said}
 use Rattle.edge_journal.specs.ByLines.{Machine}

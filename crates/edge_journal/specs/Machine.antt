@@ -1,16 +1,14 @@
 -- A run file line by line.
-use Rattle.std.specs.Prelude.{◌≡◌, ◌≤◌, ◌+◌, ℕ, List, [], ◌∷◌, ◌++◌, length, codes, bytes_eq, map, nat_lt, Option, None, Some, Result, Ok, Err, if◌then◌else◌}
-use Rattle.std.specs.Option.{option_map, option_map_or}
-use Rattle.edge_words.specs.Reading.{◌>>=◌}
+use Rattle.std.specs.Prelude.{◌≤◌, ◌+◌, ℕ, List, [], ◌∷◌, ◌++◌, length, codes, bytes_eq, map, nat_lt, Option, None, Some, if◌then◌else◌}
+use Rattle.std.specs.Option.{option_map}
 use Rattle.call_lines.specs.declared.line.Line.{Line}
 use Rattle.edge_journal.specs.declared.run.Step.{Step}
 use Rattle.edge_journal.specs.declared.run.Run.{Run}
-use Rattle.edge_journal.specs.declared.run.RunFault.{RunFault}
-use Rattle.edge_journal.specs.declared.run.RunFault.TheVariants as fault
 use Rattle.edge_journal.specs.declared.machine.State.{State}
 use Rattle.edge_journal.specs.declared.machine.State.TheVariants as state
 use Rattle.edge_journal.specs.Run.{guest_lines, line_text, step_text, AreLinesFrom, AreGuests, AreStepsOf, most_guests, most_steps}
 use Rattle.edge_journal.specs.Reading.{line_at, step_at}
+use Rattle.edge_journal.specs.ByLines.{Machine}
 
 -- what the lines so far say: nothing; the first line; closed blocks and an open one; all blocks and some steps; all
 pub data Progress : Type 0 where
@@ -52,31 +50,13 @@ after_line (Block closed opened) line = after_in_block closed opened line
 after_line (Steps guests steps) line = after_in_steps guests steps line
 after_line (Over guests steps) line = None
 
--- some more lines
-abbrev pub after_all : Progress → List (List ℕ) → Option Progress
-after_all progress [] = Some progress
-after_all progress (line ∷ lines) = after_line progress line >>= λ next. after_all next lines
-
 -- the run, where all was said and nothing stands behind it
 abbrev pub finished : Progress → List ℕ → Option Run
 finished (Over guests steps) [] = Some (record { guests = guests; steps = steps })
 finished _ rest = None
 
-abbrev pub ok_or_line : ℕ → Option Run → Result Run ℕ
-ok_or_line n None = Err n
-ok_or_line n (Some run) = Ok run
-
--- the run, or the number of the first line that can't follow; the first of these lines has the number n
-abbrev pub told : ℕ → Progress → List (List ℕ) → List ℕ → Result Run ℕ
-told n progress [] rest = ok_or_line n (finished progress rest)
-told n progress (line ∷ lines) rest =
-    option_map_or (λ next. told (n + 1) next lines rest) (after_line progress line) (Err n)
-
--- the same in the words of the reader, unless memory ran out
-abbrev pub Tells : Result Run RunFault → Result Run ℕ → Type 0
-Tells (Ok run) read = read ≡ Ok run
-Tells (Err (fault.Line n)) read = read ≡ Err n
-Tells (Err fault.OutOfMemory) read = Unit {0}
+abbrev pub machine : Machine Progress Run
+machine = record { start = Start; after = after_line; finished = finished }
 
 -- ---- what the lines so far were
 

@@ -1,5 +1,5 @@
 -- What the values of a journal are, as their types have them and a journal can tell.
-use Rattle.std.specs.Prelude.{◌≡◌, ◌<◌, ◌^◌, ℕ, true, List, length, Option, None, Some, IsTrue}
+use Rattle.std.specs.Prelude.{◌≡◌, ◌<◌, ◌^◌, ℕ, true, length, IsTrue}
 use Rattle.hex.specs.Hex.{IsBytes}
 use Rattle.cache_types.specs.declared.entries.Entry.{Entry}
 use Rattle.cache_types.specs.declared.replies.Hit.{Hit}

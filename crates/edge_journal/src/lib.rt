@@ -1,8 +1,9 @@
-//! The two texts of a run of scripted guests: the run file, which is read, and the journal, which is written.
+//! The two texts of a run of scripted guests: the run file, which is read, and the journal, which is written and read
+//! back.
 //!
 //! A run file is spelled by a function of its value (`run_text`). `read_run` answers a value exactly where the bytes are
 //! its spelling, and otherwise the first line that can't stand where it stands. A journal is the one spelling
-//! (`journal_bytes`) of a history and of a block for each guest.
+//! (`journal_bytes`) of a history and of a block for each guest; `read_journal` reads it back in the same way.
 #![tactic(auto)]
 
 mod entries;
@@ -17,6 +18,8 @@ mod outcome;
 mod outcomes;
 mod outer;
 mod reader;
+#[cfg(test)]
+mod relying;
 mod replies;
 mod run;
 

@@ -1,19 +1,19 @@
 ghost use Rattle.std.specs.Prelude.{◌≡◌, ◌≤◌, length, IfOk, IfErr, IsOk};
-ghost use Rattle.edge_words.specs.Reading.{whole_lines, after_lines};
 ghost use Rattle.edge_journal.specs.declared.run.Run.{Run};
 ghost use Rattle.edge_journal.specs.Run.{most_bytes, IsRun, run_text};
-ghost use Rattle.edge_journal.specs.Begins.{IsCause, IsReadAs};
-ghost use Rattle.edge_journal.specs.Machine.{Start, seen, finished, ok_or_line, told, Tells};
+ghost use Rattle.edge_journal.specs.Begins.{IsCause};
+ghost use Rattle.edge_journal.specs.ByLines.{ok_or_line, told_of, Tells, IsReadAs};
+ghost use Rattle.edge_journal.specs.Machine.{seen, finished, machine};
 
 use crate::machine::{State, next_state};
-use crate::run::{Blocks, Run, RunFault, Steps};
+use crate::run::{Blocks, Run, RunFault, Steps, bad_line};
 use edge_words::{LineFault, cut};
 use std::alloc::Global;
 
 const MOST_BYTES: usize = 67_108_864;
 
 /// The run, where all was said and nothing stands behind it.
-fn run_of(state: State, rest: &[u8], number: u32) -> Result<Run, RunFault>
+fn run_of(state: State, rest: &[u8], number: usize) -> Result<Run, RunFault>
     ensures { Tells result (ok_or_line number (finished (seen state) rest.now)) }
 {
     match state {
@@ -24,25 +24,24 @@ fn run_of(state: State, rest: &[u8], number: u32) -> Result<Run, RunFault>
                     steps: Steps::of(steps),
                 })
             } else {
-                Err(RunFault::Line(number))
+                Err(bad_line(number))
             }
         }
-        _ => Err(RunFault::Line(number)),
+        _ => Err(bad_line(number)),
     }
 }
 
 /// Reads line by line.
 fn read_lines(alloc: Global, bytes: &[u8]) -> Result<Run, RunFault>
-    requires { length bytes.now ≤ most_bytes }
-    ensures { Tells result (told 1 Start (whole_lines bytes.now) (after_lines bytes.now)) }
+    ensures { Tells result (told_of machine bytes.now) }
 {
     let mut state = State::Start;
     let mut rest = bytes;
-    let mut number: u32 = 1;
+    let mut number: usize = 1;
     while let Some((line, after)) = cut(rest, b'\n') {
         match next_state(alloc, state, line) {
             Ok(next) => state = next,
-            Err(LineFault::Bad) => return Err(RunFault::Line(number)),
+            Err(LineFault::Bad) => return Err(bad_line(number)),
             Err(LineFault::OutOfMemory) => return Err(RunFault::OutOfMemory),
         }
         rest = after;

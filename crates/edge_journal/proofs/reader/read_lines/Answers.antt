@@ -1,16 +1,21 @@
-use Rattle.std.proofs.Common.{sym, ◌∙◌, arith}
-use Rattle.edge_journal.specs.Machine.{seen}
-use Rattle.edge_journal.proofs.Told.{told_goes, told_bad, few_after}
+use Rattle.std.proofs.Common.{sym, refl, ◌∙◌, arith}
+use Rattle.edge_journal.specs.Machine.{seen, machine}
+use Rattle.edge_journal.proofs.ByLines.{told_goes, told_bad}
+use Rattle.edge_journal.proofs.Told.{few_after}
 use Rattle.edge_journal.proofs.reader.read_lines.Goals as goal
 
 pub returns-in-Err-Bad : goal.returns-in-Err-Bad
 returns-in-Err-Bad c =
-    sym c.loop-line.invariant.0
-    ∙ told_bad c.loop-line.number (seen c.loop-line.state) c.loop-line.rest.now c.in-Some.line.now c.in-Some.after.now c.in-Some.ensures.parts (rw c.in-Err-Bad.field-0-is at c.in-Err-Bad.ensures)
+    rw c.bad_line.ensures (
+      c.loop-line.number,
+      sym c.loop-line.invariant.0
+          ∙ told_bad machine c.loop-line.number (seen c.loop-line.state) c.loop-line.rest.now c.in-Some.line.now c.in-Some.after.now c.in-Some.ensures.parts (rw c.in-Err-Bad.field-0-is at c.in-Err-Bad.ensures),
+      refl,
+    )
 
 pub loop-line-preserved : goal.loop-line-preserved
 loop-line-preserved c = (
-  sym (told_goes c.loop-line.number (seen c.loop-line.state) (seen c.in-Ok.next) c.loop-line.rest.now c.in-Some.line.now c.in-Some.after.now c.in-Some.ensures.parts c.in-Ok.ensures)
+  sym (told_goes machine c.loop-line.number (seen c.loop-line.state) (seen c.in-Ok.next) c.loop-line.rest.now c.in-Some.line.now c.in-Some.after.now c.in-Some.ensures.parts c.in-Ok.ensures)
       ∙ c.loop-line.invariant.0,
   few_after (seen c.loop-line.state) (seen c.in-Ok.next) c.in-Some.line.now c.loop-line.invariant.1 c.in-Ok.ensures,
   omega (arith, c.loop-line.invariant.2, c.in-Some.ensures.shorter),

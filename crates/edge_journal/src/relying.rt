@@ -1,0 +1,36 @@
+ghost use Rattle.std.specs.Prelude.{◌≡◌, IfOk, IfErr};
+ghost use Rattle.edge_journal.specs.declared.run.RunFault.TheVariants.{OutOfMemory};
+ghost use Rattle.edge_journal.specs.Readable.{IsReadable};
+
+use crate::journal::journal_text;
+use crate::journal_reader::read_journal;
+use crate::journals::Journal;
+use crate::run::RunFault;
+use cache_types::{Done, History, Octets};
+use std::alloc::Global;
+
+// What users of journals rely on. The prover is all that runs it.
+
+/// What is written is read back as it was, unless memory runs out.
+#[tactic(auto, using(crate::proofs::JournalExact::is_journal))]
+fn written_and_read(alloc: Global, history: &History, guests: &[Done]) -> Result<Journal, RunFault>
+    requires { IsReadable (record { history = history.now; guests = guests.now }) }
+    ensures value { IfOk result (λ journal. (journal.history ≡ history.now) × (journal.guests ≡ guests.now)) }
+    ensures fault { IfErr result (λ fault. fault ≡ OutOfMemory) }
+{
+    match journal_text(alloc, history, guests) {
+        Ok(text) => read_journal(alloc, text.bytes()),
+        Err(_) => Err(RunFault::OutOfMemory),
+    }
+}
+
+/// What is read is written again as it stood.
+fn read_and_written(alloc: Global, bytes: &[u8]) -> Result<Octets, RunFault>
+    ensures { IfOk result (λ text. text ≡ bytes.now) }
+{
+    let journal = read_journal(alloc, bytes)?;
+    match journal_text(alloc, &journal.history, journal.guests.items()) {
+        Ok(text) => Ok(text),
+        Err(_) => Err(RunFault::OutOfMemory),
+    }
+}
