@@ -16,7 +16,8 @@ use Rattle.wasm_reader.specs.Sections.{module_at}
 abbrev pub IsCut : {A : Type 0} → Scope → Result A ReadFault → Type 0
 IsCut scope read = read ≡ Err (short_of scope)
 
--- sections that are right so far are a module already, or are cut off, or lack the code that their functions need
+-- sections that are right so far are a module already, or are cut off, or have different counts of functions and bodies,
+-- which is told only when the bytes end
 abbrev pub IsUnfinished : Scope → Result Module ReadFault → Type 0
 IsUnfinished scope (Ok m) = Unit {0}
 IsUnfinished scope (Err fault) = (fault ≡ short_of scope) ⊎ (fault ≡ fault_at CountMismatch scope [])
@@ -55,7 +56,7 @@ TellsFirstBut Ends read = (scope : Scope) (bytes : List ℕ) (fault : ReadFault)
 
 -- ---- of a whole module
 
--- what is told of bytes that are right so far, alone: they are a module, or what is wrong is only that they end there
+-- what is told of bytes that are right so far, alone: they are a module, or the fault stands at their very end
 abbrev pub EndsAt : ℕ → Result Module ReadFault → Type 0
 EndsAt end (Ok m) = Unit {0}
 EndsAt end (Err fault) = ((fault.kind ≡ Truncated) ⊎ (fault.kind ≡ CountMismatch)) × (fault.place ≡ end)
@@ -76,5 +77,5 @@ pub record IsFirstFault (bytes : List ℕ) (fault : ReadFault) : Type 0 where
   pub place : fault.place ≡ length front
   -- nothing is wrong before the place, but for a stated size that ends there and is too small for what it holds
   pub before : EndsAt (length front) (module_at front) ⊎ ((fault.kind ≡ SectionSize) × (module_at front ≡ Err fault))
-  -- the bytes only end too early, or nothing that follows them mends them: no module begins with them
+  -- the fault stands at the end of the bytes, or nothing that follows them mends them: no module begins with them
   pub there : ((tail ≡ []) × ((fault.kind ≡ Truncated) ⊎ (fault.kind ≡ CountMismatch))) ⊎ (((more : List ℕ) → StillTells fault tail (bytes ++ more)) × ((more : List ℕ) (m : Module) → IsModule (bytes ++ more) m → ⊥))

@@ -2,6 +2,9 @@
 //! WebAssembly Core Specification 1.0, in the profile without floating point and with this host's limits), gives
 //! the one module that the bytes spell, and else tells the first fault and its place.
 //!
+//! That the fault is the first one is a law above the reading: the clause `first`, and of the parts by themselves
+//! [`parts_tell_first`] and [`sections_tell_first`].
+//!
 //! Reading goes once from left to right, and takes no memory for a count that the bytes can't hold.
 #![tactic(auto)]
 
