@@ -1,7 +1,6 @@
 -- A constant expression is checked without a fault exactly where it is one of its type.
-use Rattle.std.proofs.Common.{◌≡◌, ℕ, suc, ◌+◌, ◌≤◌, ◌<◌, Bool, true, false, cond, ltb, ◌&&◌, Option, Some, None, Result, Ok, Err, List, [], ◌∷◌, ◌++◌, length, refl, sym, ap, subst, ◌∙◌, arith}
+use Rattle.std.proofs.Common.{◌≡◌, ℕ, ◌+◌, ◌≤◌, Bool, true, false, cond, ltb, ◌&&◌, Option, Some, None, Ok, Err, List, [], ◌∷◌, length, refl, sym, ap, subst, ◌∙◌, arith}
 use Rattle.std.proofs.lemmas.Bool.{le-ltb}
-use Rattle.std.proofs.lemmas.Option.{slice_get_within}
 use Rattle.std.specs.List.{slice_get}
 use Rattle.wasm_types.specs.declared.types.ValueType.{ValueType}
 use Rattle.wasm_types.specs.declared.types.ValueType.TheVariants.{I32, I64}
@@ -11,9 +10,8 @@ use Rattle.wasm_types.specs.declared.instructions.Instr.TheVariants.{GlobalGet, 
 use Rattle.wasm_types.specs.Nested.{role_of, Plain, Body, Done, Goes, InBlock, InLoop, InIf, InIfElse, flat_onto, Nests}
 use Rattle.wasm_validate.specs.declared.fault.ValidKind.{ValidKind}
 use Rattle.wasm_validate.specs.declared.fault.ValidKind.TheVariants.{BadConst, TooHigh, TypeMismatch, UnknownGlobal}
-use Rattle.wasm_validate.specs.Lists.{head_of, tail_of, is_nil}
-use Rattle.wasm_validate.specs.Steps.{◌>>=◌, found}
-use Rattle.wasm_validate.specs.Rules.{Setting, type_of, Mono, rule_of, misuse}
+use Rattle.wasm_validate.specs.Steps.{found}
+use Rattle.wasm_validate.specs.Rules.{type_of, Mono, rule_of}
 use Rattle.wasm_validate.specs.Typing.{Types, IsTyped, AreTyped}
 use Rattle.wasm_validate.specs.Valid.{IsConstant, AreConstant, sees, GivesConstant}
 use Rattle.wasm_validate.specs.Parts.{one_constant, is_end, constants, same_kind, is_one, constant, needs}

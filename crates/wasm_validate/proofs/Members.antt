@@ -1,15 +1,12 @@
 -- The other parts of a module are checked without a fault exactly where they are valid.
-use Rattle.std.proofs.Common.{◌≡◌, ℕ, zero, suc, ◌+◌, ◌≤◌, ◌<◌, Bool, true, false, cond, ltb, ◌&&◌, ◌||◌, Option, Some, None, Result, Ok, Err, List, [], ◌∷◌, ◌++◌, length, take, refl, sym, ap, subst, ◌∙◌, arith, inl, inr}
+use Rattle.std.proofs.Common.{◌≡◌, ℕ, zero, suc, ◌+◌, ◌<◌, Bool, true, false, cond, ltb, ◌&&◌, ◌||◌, Option, Some, None, Result, Ok, Err, List, [], ◌∷◌, length, take, refl, sym, ap, subst, ◌∙◌, arith, inl, inr}
 use Rattle.std.proofs.lemmas.Bool.{ltb-true, lt-ltb, cases_Bool}
-use Rattle.std.proofs.lemmas.Option.{slice_get_within}
 use Rattle.std.specs.List.{slice_get}
 use Rattle.std.specs.Str.{bytes_eq}
 use Rattle.std.specs.Cmp.Lexicographic.{same_text, other_text}
 use Rattle.wasm_types.specs.declared.types.ValueType.{ValueType}
 use Rattle.wasm_types.specs.declared.types.ValueType.TheVariants.{I32}
 use Rattle.wasm_types.specs.declared.types.FuncType.{FuncType}
-use Rattle.wasm_types.specs.declared.types.GlobalType.{GlobalType}
-use Rattle.wasm_types.specs.declared.instructions.Instr.{Instr}
 use Rattle.wasm_types.specs.declared.modules.ImportKind.{ImportKind}
 use Rattle.wasm_types.specs.declared.modules.ImportKind.TheVariants as kinds
 use Rattle.wasm_types.specs.declared.modules.ExportKind.{ExportKind}
@@ -30,16 +27,14 @@ use Rattle.wasm_validate.specs.Steps.{◌>>=◌, found, told}
 use Rattle.wasm_validate.specs.Faults.{in_part}
 use Rattle.wasm_validate.specs.Rules.{Setting, type_at, function_at}
 use Rattle.wasm_validate.specs.Scanning.{scan, outset}
-use Rattle.wasm_validate.specs.Walking.{walk_body}
-use Rattle.wasm_validate.specs.Typing.{IsTypedBody}
-use Rattle.wasm_validate.specs.Spaces.{functions_of, functions_in, globals_of, tables_of, memories_of, setting_of}
-use Rattle.wasm_validate.specs.Valid.{AllAt, HasType, count_of, IsNew, IsExport, IsStart, IsElement, IsFunction, IsSegment, GivesConstant}
-use Rattle.wasm_validate.specs.Parts.{Checked, needs, import_type, constant, count_in, unknown, any_named, export_at, gives_nothing, start, start_at, all_below, element, segment, body_type, inside, code_at}
-use Rattle.wasm_validate.proofs.Results.{bind_ok, needs_ok, guard_ok, told_ok, done, ok_is}
+use Rattle.wasm_validate.specs.Spaces.{functions_of, globals_of, tables_of, memories_of, setting_of}
+use Rattle.wasm_validate.specs.Valid.{AllAt, HasType, count_of, IsExport, IsStart, IsElement, IsFunction, IsSegment}
+use Rattle.wasm_validate.specs.Parts.{needs, import_type, constant, count_in, unknown, any_named, export_at, gives_nothing, start, start_at, all_below, element, segment, body_type, inside, code_at}
+use Rattle.wasm_validate.proofs.Results.{bind_ok, guard_ok, told_ok, done, ok_is}
 use Rattle.wasm_validate.proofs.Flat.{scan_body}
 use Rattle.wasm_validate.proofs.Agreement.{body_typed, typed_body}
 use Rattle.wasm_validate.proofs.ConstantExpressions.{found_ok, and_first, and_second, constant_ok, ok_constant}
-use Rattle.wasm_validate.proofs.PartByPart.{placed_ok, ok_placed, need_ok, ok_need, below_ok, ok_below}
+use Rattle.wasm_validate.proofs.PartByPart.{placed_ok, need_ok, below_ok, ok_below}
 
 -- ---- function types
 

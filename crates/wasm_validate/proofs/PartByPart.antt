@@ -1,14 +1,14 @@
 -- Each part is checked without a fault exactly where it is valid.
-use Rattle.std.proofs.Common.{◌≡◌, ℕ, ◌+◌, ◌-◌, ◌≤◌, ◌<◌, Bool, true, false, cond, ltb, leb, Option, Some, None, Result, Ok, Err, List, [], ◌∷◌, ◌++◌, length, refl, sym, ap, subst, ◌∙◌, arith}
+use Rattle.std.proofs.Common.{◌≡◌, ℕ, ◌+◌, ◌<◌, Bool, true, ltb, Result, Ok, Err, List, [], ◌∷◌, refl, ap}
 use Rattle.std.proofs.lemmas.Bool.{ltb-true, lt-ltb}
 use Rattle.wasm_validate.specs.declared.fault.ValidKind.{ValidKind}
 use Rattle.wasm_validate.specs.declared.fault.Part.{Part}
 use Rattle.wasm_validate.specs.declared.fault.ValidFault.{ValidFault}
-use Rattle.wasm_validate.specs.Steps.{◌>>=◌, told}
+use Rattle.wasm_validate.specs.Steps.{told}
 use Rattle.wasm_validate.specs.Faults.{in_part}
 use Rattle.wasm_validate.specs.Valid.{AllAt}
 use Rattle.wasm_validate.specs.Parts.{Checked, needs, each, placed, every}
-use Rattle.wasm_validate.proofs.Results.{bind_ok, needs_ok, told_ok, done, ok_is}
+use Rattle.wasm_validate.proofs.Results.{bind_ok, needs_ok, done, ok_is}
 
 abbrev pub Passes : {A E : Type 0} → Result A E → Type 0
 Passes {A} r = (x : A) × (r ≡ Ok x)

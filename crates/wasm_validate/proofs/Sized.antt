@@ -1,8 +1,7 @@
 -- How many tables or memories there are, and that there is one at most.
-use Rattle.std.proofs.Common.{◌≡◌, ℕ, ◌+◌, ◌≤◌, ◌<◌, Bool, true, false, ltb, leb, ◌&&◌, Option, Some, None, Result, Ok, Err, List, [], ◌∷◌, ◌++◌, length, refl, sym, ap, subst, ◌∙◌, arith}
+use Rattle.std.proofs.Common.{◌≡◌, ℕ, ◌+◌, Option, Some, None, Ok, List, [], ◌∷◌, ◌++◌, length, refl, ap, arith}
 use Rattle.std.proofs.lemmas.List.{length-append}
 use Rattle.wasm_types.specs.declared.types.Limits.{Limits}
-use Rattle.wasm_validate.specs.declared.fault.ValidKind.{ValidKind}
 use Rattle.wasm_validate.specs.declared.fault.ValidFault.{ValidFault}
 use Rattle.wasm_validate.specs.declared.fault.Part.{Part}
 use Rattle.wasm_validate.specs.declared.fault.Part.TheVariants as parts

@@ -1,11 +1,10 @@
 -- Tables and memories are checked without a fault exactly where their limits are valid and there is one at most.
-use Rattle.std.proofs.Common.{◌≡◌, ℕ, suc, ◌+◌, ◌≤◌, ◌<◌, Bool, true, false, cond, ltb, leb, ◌&&◌, Option, Some, None, Result, Ok, Err, List, [], ◌∷◌, ◌++◌, length, refl, sym, ap, subst, ◌∙◌, arith}
+use Rattle.std.proofs.Common.{◌≡◌, ℕ, ◌+◌, ◌≤◌, ◌<◌, true, ltb, leb, ◌&&◌, Option, Some, None, Ok, List, [], ◌∷◌, ◌++◌, length, refl, arith}
 use Rattle.std.proofs.lemmas.List.{length-append}
 use Rattle.std.proofs.lemmas.Bool.{leb-true, le-leb}
 use Rattle.wasm_types.specs.declared.types.Limits.{Limits}
 use Rattle.wasm_types.specs.declared.modules.ExportKind.TheVariants as exports
 use Rattle.wasm_types.specs.declared.modules.Module.{Module}
-use Rattle.wasm_validate.specs.declared.fault.ValidKind.{ValidKind}
 use Rattle.wasm_validate.specs.declared.fault.ValidKind.TheVariants.{BadLimits, MoreThanOne}
 use Rattle.wasm_validate.specs.declared.fault.ValidFault.{ValidFault}
 use Rattle.wasm_validate.specs.declared.fault.Part.{Part}
@@ -18,7 +17,7 @@ use Rattle.wasm_validate.specs.Parts.{needs, within, size, sizes, all_present, t
 use Rattle.wasm_validate.proofs.Results.{bind_ok, ok_is}
 use Rattle.wasm_validate.proofs.ConstantExpressions.{and_first, and_second}
 use Rattle.wasm_validate.proofs.Sized.{sizes_count, present_all}
-use Rattle.wasm_validate.proofs.PartByPart.{placed_ok, ok_placed, need_ok, ok_need, below_ok, ok_below}
+use Rattle.wasm_validate.proofs.PartByPart.{placed_ok, need_ok, below_ok, ok_below}
 
 within_ok : (range least : ℕ) (most : Option ℕ) → within range least most ≡ true → IsWithin least most range
 within_ok range least None e = leb-true least range e

@@ -1,19 +1,18 @@
 -- A module that is ready has no fault exactly where it is valid.
-use Rattle.std.proofs.Common.{◌≡◌, ℕ, ◌+◌, ◌≤◌, ◌<◌, ltb, Some, None, Result, Ok, Err, List, [], ◌∷◌, length, refl, sym, ap, subst, ◌∙◌}
+use Rattle.std.proofs.Common.{◌≡◌, ℕ, ◌+◌, ◌≤◌, ◌<◌, ltb, None, Ok, [], length, refl}
 use Rattle.wasm_types.specs.declared.modules.Module.{Module}
 use Rattle.wasm_validate.specs.declared.fault.ValidKind.TheVariants.{UnknownType}
-use Rattle.wasm_validate.specs.declared.fault.ValidFault.{ValidFault}
 use Rattle.wasm_validate.specs.declared.fault.Part.TheVariants as parts
-use Rattle.wasm_validate.specs.Steps.{◌>>=◌, told}
+use Rattle.wasm_validate.specs.Steps.{◌>>=◌}
 use Rattle.wasm_validate.specs.declared.fault.Halt.{Halt}
 use Rattle.wasm_validate.specs.declared.fault.Halt.TheVariants as halts
 use Rattle.wasm_validate.specs.Faults.{Refuses, told_of, memory_fault}
-use Rattle.wasm_validate.specs.Spaces.{functions_in, globals_in, tables_of, memories_of, setting_of}
-use Rattle.wasm_validate.specs.Valid.{AllAt, HasType, AreLimits, GivesConstant, IsExport, IsStart, IsElement, IsFunction, IsSegment, IsValid}
+use Rattle.wasm_validate.specs.Spaces.{functions_in, globals_in, setting_of}
+use Rattle.wasm_validate.specs.Valid.{AllAt, HasType, GivesConstant, IsExport, IsElement, IsFunction, IsSegment, IsValid}
 use Rattle.wasm_validate.specs.Ready.{IsReady, IsExpression, params_count}
-use Rattle.wasm_validate.specs.Parts.{needs, each, placed, import_type, constant, export_at, start_at, element, segment, code_at, imports_at, functions_at, globals_at, exports_at, elements_at, bodies_at, segments_at, tables_at, memories_at, later_fault, rest_fault, first_fault}
-use Rattle.wasm_validate.proofs.Results.{bind_ok, done}
-use Rattle.wasm_validate.proofs.PartByPart.{every_all, all_every, each_all, all_each, all_each_with, placed_ok, ok_placed, below_ok, ok_below}
+use Rattle.wasm_validate.specs.Parts.{needs, placed, import_type, constant, export_at, start_at, element, segment, code_at, imports_at, functions_at, globals_at, exports_at, elements_at, bodies_at, segments_at, tables_at, memories_at, later_fault, rest_fault, first_fault}
+use Rattle.wasm_validate.proofs.Results.{bind_ok}
+use Rattle.wasm_validate.proofs.PartByPart.{every_all, all_every, all_each, all_each_with, placed_ok, below_ok, ok_below}
 use Rattle.wasm_validate.proofs.ConstantExpressions.{constant_ok, ok_constant}
 use Rattle.wasm_validate.proofs.Sizing.{tables_ok, ok_tables, memories_ok, ok_memories}
 use Rattle.wasm_validate.proofs.Members.{import_ok, ok_import, export_ok, ok_export, start_ok, ok_start, element_ok, ok_element, segment_ok, ok_segment, code_ok, ok_code}

@@ -10,3 +10,4 @@ pub mod Spaces
 pub mod Valid
 pub mod Parts
 pub mod Ready
+pub mod Text

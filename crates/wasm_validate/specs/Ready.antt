@@ -1,15 +1,9 @@
 -- What a module is that was read: its expressions nest, and the limits on its parts are kept, all but that on the height
 -- of operands.
-use Rattle.std.specs.Prelude.{◌≡◌, ℕ, ◌+◌, ◌≤◌, Option, IfSome, List, [], ◌∷◌, length, slice_get}
+use Rattle.std.specs.Prelude.{◌≡◌, ℕ, ◌+◌, ◌≤◌, IfSome, List, length, slice_get}
 use Rattle.std.specs.Option.{option_map_or}
-use Rattle.wasm_types.specs.declared.types.FuncType.{FuncType}
-use Rattle.wasm_types.specs.declared.types.Limits.{Limits}
 use Rattle.wasm_types.specs.declared.instructions.Instr.{Instr}
 use Rattle.wasm_types.specs.declared.instructions.Instr.TheVariants.{BrTable}
-use Rattle.wasm_types.specs.declared.modules.GlobalItem.{GlobalItem}
-use Rattle.wasm_types.specs.declared.modules.Element.{Element}
-use Rattle.wasm_types.specs.declared.modules.Code.{Code}
-use Rattle.wasm_types.specs.declared.modules.Segment.{Segment}
 use Rattle.wasm_types.specs.declared.modules.Module.{Module}
 use Rattle.wasm_types.specs.Nested.{NestsWithin}
 use Rattle.wasm_validate.specs.Spaces.{tables_of, memories_of}

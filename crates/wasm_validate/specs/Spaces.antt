@@ -1,7 +1,6 @@
 -- What the indices of a module name (section 2.5.1): what is imported comes first.
-use Rattle.std.specs.Prelude.{ℕ, Option, Some, None, List, [], ◌∷◌, ◌++◌, length, map, slice_get}
+use Rattle.std.specs.Prelude.{ℕ, Option, Some, None, List, [], ◌∷◌, ◌++◌, length}
 use Rattle.wasm_types.specs.declared.types.ValueType.{ValueType}
-use Rattle.wasm_types.specs.declared.types.FuncType.{FuncType}
 use Rattle.wasm_types.specs.declared.types.GlobalType.{GlobalType}
 use Rattle.wasm_types.specs.declared.types.Limits.{Limits}
 use Rattle.wasm_types.specs.declared.modules.ImportKind.{ImportKind}

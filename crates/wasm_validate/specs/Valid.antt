@@ -1,5 +1,5 @@
 -- Valid modules (sections 3.2 and 3.4), within the limit on the height of operands.
-use Rattle.std.specs.Prelude.{◌≡◌, ℕ, ◌+◌, ◌≤◌, ◌<◌, Bool, false, Option, Some, None, List, [], ◌∷◌, ◌++◌, length, slice_get}
+use Rattle.std.specs.Prelude.{◌≡◌, ℕ, ◌+◌, ◌≤◌, ◌<◌, false, Option, Some, None, List, [], ◌∷◌, ◌++◌, length, slice_get}
 use Rattle.wasm_types.specs.declared.types.ValueType.{ValueType}
 use Rattle.wasm_types.specs.declared.types.ValueType.TheVariants.{I32}
 use Rattle.wasm_types.specs.declared.types.FuncType.{FuncType}
@@ -9,8 +9,6 @@ use Rattle.wasm_types.specs.declared.instructions.Instr.{Instr}
 use Rattle.wasm_types.specs.declared.instructions.Instr.TheVariants.{GlobalGet, Const}
 use Rattle.wasm_types.specs.declared.modules.ImportKind.{ImportKind}
 use Rattle.wasm_types.specs.declared.modules.ImportKind.TheVariants as kinds
-use Rattle.wasm_types.specs.declared.modules.Import.{Import}
-use Rattle.wasm_types.specs.declared.modules.GlobalItem.{GlobalItem}
 use Rattle.wasm_types.specs.declared.modules.ExportKind.{ExportKind}
 use Rattle.wasm_types.specs.declared.modules.ExportKind.TheVariants as exports
 use Rattle.wasm_types.specs.declared.modules.Export.{Export}

@@ -22,6 +22,7 @@ mod parts;
 mod setting;
 mod spaces;
 mod stack;
+mod text;
 mod valid;
 
 pub use fault::{Part, ValidFault, ValidKind};

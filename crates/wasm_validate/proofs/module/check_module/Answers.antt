@@ -1,4 +1,3 @@
-use Rattle.std.proofs.Common.{◌≡◌, length}
 use Rattle.wasm_validate.proofs.Sized.{tables_count, memories_count}
 use Rattle.wasm_validate.proofs.module.check_module.Goals as goal
 

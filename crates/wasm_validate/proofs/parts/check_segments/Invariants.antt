@@ -1,8 +1,6 @@
-use Rattle.std.proofs.Common.{◌≡◌, drop, length, ltb}
-use Rattle.wasm_types.specs.declared.types.ValueType.TheVariants.{I32}
-use Rattle.wasm_validate.specs.declared.fault.ValidKind.TheVariants.{UnknownType}
+use Rattle.std.proofs.Common.{◌≡◌, drop}
 use Rattle.wasm_validate.specs.declared.fault.Part.TheVariants as parts
-use Rattle.wasm_validate.specs.Parts.{needs, each, placed, segment}
+use Rattle.wasm_validate.specs.Parts.{each, placed, segment}
 use Rattle.wasm_validate.proofs.parts.check_segments.Given as goal
 
 abbrev pub invariant-loop-i : goal.invariant-loop-i

@@ -1,4 +1,4 @@
-use Rattle.std.proofs.Common.{◌≡◌, ◌≤◌, drop}
+use Rattle.std.proofs.Common.{◌≡◌, drop}
 use Rattle.wasm_validate.specs.Parts.{sizes, all_present}
 use Rattle.wasm_validate.proofs.parts.check_sizes.Given as goal
 

@@ -1,4 +1,4 @@
-use Rattle.std.proofs.Common.{◌≡◌, ◌≤◌, drop}
+use Rattle.std.proofs.Common.{◌≡◌, drop}
 use Rattle.wasm_validate.specs.declared.fault.Part.TheVariants as parts
 use Rattle.wasm_validate.specs.Spaces.{sizes_in}
 use Rattle.wasm_validate.specs.Parts.{sizes}

@@ -1,7 +1,4 @@
-use Rattle.std.proofs.Common.{◌≡◌, ◌∙◌}
-use Rattle.wasm_validate.specs.Faults.{memory_fault}
-use Rattle.wasm_validate.specs.Valid.{IsValid}
-use Rattle.wasm_validate.specs.Ready.{IsReady}
+use Rattle.std.proofs.Common.{◌∙◌}
 use Rattle.wasm_validate.proofs.Truth.{faultless_valid, only_memory}
 use Rattle.wasm_validate.proofs.valid.validate.Goals as goal
 
