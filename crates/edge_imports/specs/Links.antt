@@ -139,3 +139,16 @@ linked m = with_calls m (first_from is_unknown 0 m.imports)
 -- so, unless memory ran out
 abbrev pub IsLinkedAs : Result Links LinkRefusal → Result Links LinkRefusal → Type 0
 IsLinkedAs wanted answer = (answer ≡ wanted) ⊎ (answer ≡ Err refusal.OutOfMemory)
+
+-- a module with its links
+pub record LinkedModule : Type 0 where
+  pub whole : Module
+  pub links : Links
+
+-- the call of the import at an index
+abbrev pub call_of_some : Option Import → Option Hostcall
+call_of_some None = None
+call_of_some (Some i) = call_of i
+
+abbrev pub hostcall_at : List Import → ℕ → Option Hostcall
+hostcall_at imports index = call_of_some (slice_get imports index)

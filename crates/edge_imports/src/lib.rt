@@ -4,6 +4,7 @@
 mod find;
 mod hostcall;
 mod laws;
+mod linked;
 mod linking;
 mod links;
 mod table;
@@ -12,6 +13,7 @@ mod types;
 pub use find::call_named;
 pub use hostcall::Hostcall;
 pub use laws::each_call_is_named;
+pub use linked::{Linked, link};
 pub use linking::links_of;
 pub use links::{LinkRefusal, Links};
 pub use table::Row;
