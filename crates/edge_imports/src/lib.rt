@@ -8,6 +8,7 @@ mod linked;
 mod linking;
 mod links;
 mod table;
+mod text;
 mod types;
 
 pub use find::call_named;

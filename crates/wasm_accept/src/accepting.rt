@@ -1,8 +1,8 @@
-ghost use Rattle.std.specs.Prelude.{IfOk, List, ℕ};
+ghost use Rattle.std.specs.Prelude.{IfOk, IfErr, List, ℕ};
 ghost use Rattle.wasm_types.specs.declared.modules.Module.{Module};
 ghost use Rattle.wasm_reader.specs.Grammar.{IsModule};
 ghost use Rattle.wasm_validate.specs.Valid.{IsValid};
-ghost use Rattle.wasm_accept.specs.Accepting.{OnlyMemory};
+ghost use Rattle.wasm_accept.specs.Accepting.{OnlyMemory, IsCause};
 
 use std::alloc::Global;
 use wasm_code::ReadFault;
@@ -24,6 +24,9 @@ pub fn accept(alloc: Global, bytes: &[u8]) -> Result<Valid, Refusal>
 
     // What is spelled by the bytes and valid is answered, unless memory runs out.
     ensures only { (m : Module) → IsModule bytes.now m → IsValid m → OnlyMemory result }
+
+    // Which fault it is.
+    ensures cause { IfErr result (IsCause bytes.now) }
 {
     match read_module(alloc, bytes) {
         Err(fault) => Err(Refusal::Read(fault)),
