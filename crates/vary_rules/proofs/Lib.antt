@@ -1,0 +1,4 @@
+pub mod Rising
+pub mod Naming
+pub mod Lowered
+pub mod Held
