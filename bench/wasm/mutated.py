@@ -59,8 +59,8 @@ def main():
     assert len(lines) == COUNT, len(lines)
     kinds = collections.Counter()
     for data, line in zip(cases, lines):
-        if line.endswith(" ok"):
-            kinds["ok"] += 1
+        if " ok " in line:
+            kinds["valid" if line.endswith(" valid") else "read, not valid"] += 1
             continue
         found = re.search(r"kind: (\w+), place: (\d+)", line)
         assert found, line
