@@ -1,4 +1,4 @@
-"""Builds the small program that reads modules, in a folder of its own, and runs it."""
+"""Builds the small program that reads and validates modules, in a folder of its own, and runs it."""
 
 import os
 import shutil
@@ -8,7 +8,7 @@ import tempfile
 
 HERE = os.path.dirname(os.path.abspath(__file__))
 ROOT = os.path.dirname(os.path.dirname(HERE))
-CRATES = ("wasm_types", "wasm_code", "wasm_reader")
+CRATES = ("wasm_types", "wasm_code", "wasm_reader", "wasm_validate", "wasm_accept")
 
 
 def build(folder):
@@ -24,7 +24,9 @@ def build(folder):
     shutil.copy(os.path.join(HERE, "program.txt"), os.path.join(source, "main.rt"))
     with open(os.path.join(folder, "crates.txt"), "w") as lines:
         lines.write("wasm_types:\nwasm_code: wasm_types\nwasm_reader: wasm_types wasm_code\n")
-        lines.write("wasm_bench: wasm_reader\n")
+        lines.write("wasm_validate: wasm_types\n")
+        lines.write("wasm_accept: wasm_types wasm_code wasm_reader wasm_validate\n")
+        lines.write("wasm_bench: wasm_reader wasm_accept\n")
     subprocess.run(["git", "init", "-q", folder], check=True)
     subprocess.run(
         ["rt", "run", "--jobs", "1"], cwd=os.path.dirname(source), check=True, stdout=subprocess.DEVNULL

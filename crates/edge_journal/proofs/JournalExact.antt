@@ -1,5 +1,5 @@
 -- What is told of a journal, in the words of the texts alone.
-use Rattle.std.proofs.Common.{◌≡◌, ℕ, true, List, [], ◌∷◌, refl, Result, Ok, Err}
+use Rattle.std.proofs.Common.{◌≡◌, ℕ, true, List, [], ◌∷◌, refl, Result, Ok, Err, inl, inr}
 use Rattle.std.specs.Prelude.{not}
 use Rattle.std.specs.List.{list_all}
 use Rattle.std.specs.Result.{IfOk, IfErr}
@@ -12,6 +12,7 @@ use Rattle.cache_types.specs.declared.outer.Done.{Done}
 use Rattle.cache_types.specs.Entries.{is_not_yet}
 use Rattle.edge_words.specs.Reading.{AllFit}
 use Rattle.edge_journal.specs.declared.run.RunFault.{RunFault}
+use Rattle.edge_journal.specs.declared.run.RunFault.TheVariants as fault
 use Rattle.edge_journal.specs.declared.journals.Journal.{Journal}
 use Rattle.edge_journal.specs.Journal.{journal_bytes, is_told, is_event, IsJournal}
 use Rattle.edge_journal.specs.Readable.{IsEntry, IsEvent, IsDone, IsReply, IsReadable}
@@ -77,3 +78,13 @@ only bytes answer journal tells fits e = answer_only machine IsReadable spell li
 
 pub line : (bytes : List ℕ) (answer : Result Journal RunFault) → Tells answer (told_of machine bytes) → IfErr answer (IsFirstBad IsReadable spell bytes)
 line bytes answer tells = answer_line machine IsReadable spell lines_to Stands exact bytes answer tells
+
+-- ---- there and back
+
+pub same_value : (history : List Entry) (guests : List Done) (answer : Result Journal RunFault) → IsReadAs (record { history = history; guests = guests }) answer → IfOk answer (λ journal. (journal.history ≡ history) × (journal.guests ≡ guests))
+same_value history guests answer (inl read) = rw read (refl, refl)
+same_value history guests answer (inr memory) = rw memory tt
+
+pub no_line : (history : List Entry) (guests : List Done) (answer : Result Journal RunFault) → IsReadAs (record { history = history; guests = guests }) answer → IfErr answer (λ f. f ≡ fault.OutOfMemory)
+no_line history guests answer (inl read) = rw read tt
+no_line history guests answer (inr memory) = rw memory refl

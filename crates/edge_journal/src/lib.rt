@@ -18,7 +18,6 @@ mod outcome;
 mod outcomes;
 mod outer;
 mod reader;
-#[cfg(test)]
 mod relying;
 mod replies;
 mod run;
@@ -27,4 +26,5 @@ pub use journal::journal_text;
 pub use journal_reader::read_journal;
 pub use journals::{Guests, Journal};
 pub use reader::read_run;
+pub use relying::{read_and_written, written_and_read};
 pub use run::{Blocks, Lines, Run, RunFault, Step, Steps};

@@ -9,11 +9,12 @@ use crate::run::RunFault;
 use cache_types::{Done, History, Octets};
 use std::alloc::Global;
 
-// What users of journals rely on. The prover is all that runs it.
-
 /// What is written is read back as it was, unless memory runs out.
-#[tactic(auto, using(crate::proofs::JournalExact::is_journal))]
-fn written_and_read(alloc: Global, history: &History, guests: &[Done]) -> Result<Journal, RunFault>
+pub fn written_and_read(
+    alloc: Global,
+    history: &History,
+    guests: &[Done],
+) -> Result<Journal, RunFault>
     requires { IsReadable (record { history = history.now; guests = guests.now }) }
     ensures value { IfOk result (λ journal. (journal.history ≡ history.now) × (journal.guests ≡ guests.now)) }
     ensures fault { IfErr result (λ fault. fault ≡ OutOfMemory) }
@@ -25,7 +26,7 @@ fn written_and_read(alloc: Global, history: &History, guests: &[Done]) -> Result
 }
 
 /// What is read is written again as it stood.
-fn read_and_written(alloc: Global, bytes: &[u8]) -> Result<Octets, RunFault>
+pub fn read_and_written(alloc: Global, bytes: &[u8]) -> Result<Octets, RunFault>
     ensures { IfOk result (λ text. text ≡ bytes.now) }
 {
     let journal = read_journal(alloc, bytes)?;
