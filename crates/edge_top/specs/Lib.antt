@@ -1,3 +1,5 @@
 pub mod Exit
 pub mod Words
 pub mod Script
+pub mod Check
+pub mod Commands

@@ -1,11 +1,9 @@
--- What `script` does, told apart from the sink and the files that it is given.
-use Rattle.std.specs.Prelude.{◌≡◌, ◌≤◌, ℕ, false, List, length, Option, None, Some, Result, Ok, Err}
+-- What `script` does with the bytes that it read, told apart from the sink that it is given.
+use Rattle.std.specs.Prelude.{◌≡◌, ◌≤◌, ℕ, false, List, length}
 use Rattle.cache_types.specs.declared.entries.Entry.{Entry}
 use Rattle.cache_types.specs.declared.outer.Done.{Done}
 use Rattle.cache_types.specs.Legal.{IsLegal}
 use Rattle.cache_types.specs.Laws.{IsLawful}
-use Rattle.edge_outside.specs.declared.fault.IoFault.{IoFault}
-use Rattle.edge_outside.specs.declared.fault.IoFault.TheVariants as fault
 use Rattle.edge_journal.specs.declared.run.Run.{Run}
 use Rattle.edge_journal.specs.Run.{IsRun, run_text, most_bytes}
 use Rattle.edge_journal.specs.Begins.{IsFirstBad}
@@ -15,6 +13,7 @@ use Rattle.edge_play.specs.Schedule.{IsPlayed}
 use Rattle.edge_play.specs.OneResult.{IsOneResult, one_wanted}
 use Rattle.edge_top.specs.declared.exit.Exit.{Exit}
 use Rattle.edge_top.specs.declared.exit.Exit.TheVariants as exit
+use Rattle.edge_top.specs.Exit.{IsWorked}
 
 -- the greatest number of entries and live guests in every command
 abbrev pub most_entries : ℕ
@@ -62,27 +61,7 @@ AfterFile wrote failed untouched bytes (exit.RunBad line) = IsFirstBad bytes lin
 AfterFile wrote failed untouched bytes exit.OutOfMemory = untouched
 AfterFile wrote failed untouched bytes _ = ⊥
 
--- what it says of the answer to the one read
-abbrev pub AfterRead : (List ℕ → Type 0) → (List ℕ → Type 0) → Type 0 → Result (List ℕ) IoFault → Exit → Type 0
-AfterRead wrote failed untouched (Ok bytes) ended = AfterFile wrote failed untouched bytes ended
-AfterRead wrote failed untouched (Err fault.Failed) ended = (ended ≡ exit.ReadFault) × untouched
-AfterRead wrote failed untouched (Err fault.OutOfMemory) ended = (ended ≡ exit.OutOfMemory) × untouched
-
--- the work was done: it was written or that failed, unless memory ran out
-abbrev pub IsWorked : Exit → Type 0
-IsWorked exit.Ok = Unit {0}
-IsWorked exit.WriteFault = Unit {0}
-IsWorked exit.OutOfMemory = Unit {0}
-IsWorked _ = ⊥
-
--- the one read of the named file, and what followed; a run file that was read is not refused
-pub record Reads (reads : List ℕ → Result (List ℕ) IoFault → Type 0) (wrote failed : List ℕ → Type 0) (untouched : Type 0) (name : List ℕ) (ended : Exit) : Type 0 where
-  pub answer : Result (List ℕ) IoFault
-  pub read : reads name answer
-  pub after : AfterRead wrote failed untouched answer ended
-  pub complete : (bytes : List ℕ) (run : Run) → answer ≡ Ok bytes → IsRunFile bytes run → IsWorked ended
-
--- what the words lead to: where they name no file nothing at all was touched
-abbrev pub HostGives : (List ℕ → Result (List ℕ) IoFault → Type 0) → (List ℕ → Type 0) → (List ℕ → Type 0) → Type 0 → Type 0 → Option (List ℕ) → Exit → Type 0
-HostGives reads wrote failed untouched unread None ended = (ended ≡ exit.Usage) × (unread × untouched)
-HostGives reads wrote failed untouched unread (Some name) ended = Reads reads wrote failed untouched name ended
+-- and a run file is not refused
+pub record ScriptGives (wrote failed : List ℕ → Type 0) (untouched : Type 0) (bytes : List ℕ) (ended : Exit) : Type 0 where
+  pub after : AfterFile wrote failed untouched bytes ended
+  pub complete : (run : Run) → IsRunFile bytes run → IsWorked ended

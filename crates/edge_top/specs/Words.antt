@@ -11,7 +11,7 @@ is_operand (byte ∷ word) = not (byte == 45)
 abbrev pub words_of : List (String Global) → List (List ℕ)
 words_of words = map string_bytes words
 
--- the file that `script RUN` names
-abbrev pub run_named : List (List ℕ) → Option (List ℕ)
-run_named (command ∷ (run ∷ [])) = if bytes_eq command (codes "script") && is_operand run then Some run else None
-run_named _ = None
+-- the one operand of a command
+abbrev pub operand_of : List ℕ → List (List ℕ) → Option (List ℕ)
+operand_of command (word ∷ (operand ∷ [])) = if bytes_eq word command && is_operand operand then Some operand else None
+operand_of command _ = None

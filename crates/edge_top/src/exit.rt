@@ -1,6 +1,7 @@
 ghost use Rattle.std.specs.Prelude.{◌≡◌, IfOk, string_bytes};
 ghost use Rattle.edge_top.specs.Exit.{status_of, text_of};
 
+use edge_modules::ModuleFault;
 use std::alloc::{AllocError, Global};
 
 /// How a command ended.
@@ -9,6 +10,8 @@ pub enum Exit {
     Ok,
     /// The words are no command.
     Usage,
+    /// The first thing that stands in a module's way.
+    ModuleBad(ModuleFault),
     /// The run file's first line that can't stand there, counted from 1.
     RunBad { line: u32 },
     ReadFault,
@@ -28,6 +31,7 @@ impl Exit {
         match self {
             Exit::Ok => 0,
             Exit::Usage => 2,
+            Exit::ModuleBad(_) => 4,
             Exit::RunBad { .. } => 5,
             Exit::ReadFault => 6,
             Exit::WriteFault => 7,
@@ -42,6 +46,7 @@ impl Exit {
         match self {
             Exit::Ok => Ok(String::new(alloc)),
             Exit::Usage => String::from_str(alloc, USAGE),
+            Exit::ModuleBad(fault) => fault.text(alloc),
             Exit::RunBad { line } => format!(in alloc; "run: line {line}"),
             Exit::ReadFault => String::from_str(alloc, "read fault"),
             Exit::WriteFault => String::from_str(alloc, "write fault"),

@@ -4,6 +4,7 @@
 //! the text of one legal history, and of a block for each guest, tied to it and to its program.
 #![tactic(auto)]
 
+mod check;
 mod commands;
 mod exit;
 mod script;
@@ -12,5 +13,7 @@ mod words;
 pub use commands::host;
 pub use exit::Exit;
 
+#[cfg(test)]
+mod module_tests;
 #[cfg(test)]
 mod tests;

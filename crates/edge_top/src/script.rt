@@ -3,7 +3,9 @@ ghost use Rattle.edge_outside.specs.declared.fault.Failed.{Failed};
 ghost use Rattle.edge_outside.specs.declared.fault.IoFault.{IoFault};
 ghost use Rattle.edge_outside.specs.Faults.{Rose};
 ghost use Rattle.edge_journal.specs.Run.{IsRun};
-ghost use Rattle.edge_top.specs.Script.{IsJournalOf, IsRunFile, AfterFile, Reads};
+ghost use Rattle.edge_top.specs.Script.{IsJournalOf, IsRunFile, AfterFile, ScriptGives};
+ghost use Rattle.edge_top.specs.Exit.{IsWorked};
+ghost use Rattle.edge_top.specs.Commands.{Reads};
 
 use crate::exit::Exit;
 use cache_plain::PlainCache;
@@ -32,6 +34,7 @@ pub fn journal_of(alloc: Global, most: u64, run: &Run) -> Result<Octets, AllocEr
 fn write_journal<K: Sink>(alloc: Global, bytes: &[u8], run: &Run, out: &mut K) -> Exit
     requires { IsRunFile bytes.now run.now }
     ensures after { AfterFile (λ text. K.writes out.old text (Ok tt) out.new) (λ text. (fault : Failed) × K.writes out.old text (Err fault) out.new) (out.new ≡ out.old) bytes.now result }
+    ensures worked { IsWorked result }
     ensures write_fault { result ≡ Exit.WriteFault → Rose (K.faults out.old) (K.faults out.new) }
 {
     let Ok(text) = journal_of(alloc, MOST_ENTRIES, run) else {
@@ -45,7 +48,7 @@ fn write_journal<K: Sink>(alloc: Global, bytes: &[u8], run: &Run, out: &mut K) -
 
 /// What follows once the file was read.
 fn after_file<K: Sink>(alloc: Global, bytes: &[u8], out: &mut K) -> Exit
-    ensures after { AfterFile (λ text. K.writes out.old text (Ok tt) out.new) (λ text. (fault : Failed) × K.writes out.old text (Err fault) out.new) (out.new ≡ out.old) bytes.now result }
+    ensures gives { ScriptGives (λ text. K.writes out.old text (Ok tt) out.new) (λ text. (fault : Failed) × K.writes out.old text (Err fault) out.new) (out.new ≡ out.old) bytes.now result }
     ensures write_fault { result ≡ Exit.WriteFault → Rose (K.faults out.old) (K.faults out.new) }
 {
     match read_run(alloc, bytes) {
@@ -57,7 +60,7 @@ fn after_file<K: Sink>(alloc: Global, bytes: &[u8], out: &mut K) -> Exit
 
 /// Runs the scripted guests of a run file by its schedule, and writes the journal.
 pub fn run_script<F: Files, K: Sink>(alloc: Global, name: &str, files: &mut F, out: &mut K) -> Exit
-    ensures gives { Reads (λ name answer. F.reads files.old name answer files.new) (λ text. K.writes out.old text (Ok tt) out.new) (λ text. (fault : Failed) × K.writes out.old text (Err fault) out.new) (out.new ≡ out.old) name.now result }
+    ensures gives { Reads (λ name answer. F.reads files.old name answer files.new) (ScriptGives (λ text. K.writes out.old text (Ok tt) out.new) (λ text. (fault : Failed) × K.writes out.old text (Err fault) out.new) (out.new ≡ out.old)) (out.new ≡ out.old) name.now result }
     ensures read_fault { result ≡ Exit.ReadFault → Rose (F.faults files.old) (F.faults files.new) }
     ensures write_fault { result ≡ Exit.WriteFault → Rose (K.faults out.old) (K.faults out.new) }
 {

@@ -1,6 +1,6 @@
 ghost use Rattle.std.specs.Prelude.{◌≡◌};
 ghost use Rattle.std.specs.Option.{option_copied};
-ghost use Rattle.edge_top.specs.Words.{is_operand, words_of, run_named};
+ghost use Rattle.edge_top.specs.Words.{is_operand, words_of, operand_of};
 
 /// An operand isn't empty and begins with no dash.
 fn is_operand(word: &str) -> bool
@@ -12,14 +12,14 @@ fn is_operand(word: &str) -> bool
     }
 }
 
-/// The file that `script RUN` names.
-pub fn run_named(words: &[String]) -> Option<&str>
-    ensures { option_copied result ≡ run_named (words_of words.now) }
+/// The one operand of a command.
+pub fn operand_of<'a>(command: &str, words: &'a [String]) -> Option<&'a str>
+    ensures { option_copied result ≡ operand_of command.now (words_of words.now) }
 {
     match words {
-        [command, run] => {
-            if command.as_str() == "script" && is_operand(run.as_str()) {
-                Some(run.as_str())
+        [word, operand] => {
+            if word.as_str() == command && is_operand(operand.as_str()) {
+                Some(operand.as_str())
             } else {
                 None
             }

@@ -28,17 +28,19 @@ fn three(number: usize) -> [u8; 3] {
     ]
 }
 
-// What is told of a function of so many constants, and of as many drops.
-fn told_of_height(rt: &HostRuntime, count: usize) -> Result<String, Fail> {
+// What is told of a function of so many constants, these instructions, and as many drops.
+fn told_of_height(rt: &HostRuntime, count: usize, middle: &[u8]) -> Result<String, Fail> {
     let count = count.min(10_000);
+    let inside = 2 * count + middle.len().min(100) + count + 2;
     let mut all = b"\x01\x04\x01`\0\0\x03\x02\x01\0\x0A".to_vec(rt.alloc())?;
-    all.extend_from_slice(&three(3 * count + 6))?;
+    all.extend_from_slice(&three(inside + 4))?;
     all.push(1)?;
-    all.extend_from_slice(&three(3 * count + 2))?;
+    all.extend_from_slice(&three(inside))?;
     all.push(0)?;
     for _ in 0..count {
         all.extend_from_slice(&[0x41, 0])?;
     }
+    all.extend_from_slice(middle)?;
     for _ in 0..count {
         all.push(0x1A)?;
     }
@@ -46,9 +48,57 @@ fn told_of_height(rt: &HostRuntime, count: usize) -> Result<String, Fail> {
     told(rt, &all)
 }
 
+// What is told of a section with an expression of 1,025 constants.
+fn told_of_constants(
+    rt: &HostRuntime,
+    before: &[u8],
+    id: u8,
+    head: &[u8],
+    tail: &[u8],
+) -> Result<String, Fail> {
+    let mut all = before.to_vec(rt.alloc())?;
+    all.push(id)?;
+    all.extend_from_slice(&three(head.len().min(100) + 2051 + tail.len().min(100)))?;
+    all.extend_from_slice(head)?;
+    for _ in 0..1025u32 {
+        all.extend_from_slice(&[0x41, 0])?;
+    }
+    all.push(0x0B)?;
+    all.extend_from_slice(tail)?;
+    told(rt, &all)
+}
+
 #[test]
 fn heights(rt: HostRuntime) -> Result<(), Fail> {
-    assert!(rt; told_of_height(&rt, 1024)?.as_str() == "ok");
-    assert!(rt; told_of_height(&rt, 1025)?.as_str() == "module: too-high in function 0 at 1024");
+    let high = "module: too-high in function 0 at 1024";
+    assert!(rt; told_of_height(&rt, 1024, &[])?.as_str() == "ok");
+    assert!(rt; told_of_height(&rt, 1025, &[])?.as_str() == high);
+    // block (result i32) unreachable end: its own end is too high
+    let ended = told_of_height(&rt, 1024, b"\x02\x7F\0\x0B")?;
+    assert!(rt; ended.as_str() == high);
+    // unreachable drop: what is taken from below isn't counted
+    let below = told_of_height(&rt, 1024, b"\0\x1A")?;
+    assert!(rt; below.as_str() == "ok");
+    let parts: [(&[u8], u8, &[u8], &[u8], &str); 3] = [
+        (b"", 6, b"\x01\x7F\0", b"", "module: too-high in global 0"),
+        (
+            b"\x04\x04\x01p\0\x01",
+            9,
+            b"\x01\0",
+            b"\0",
+            "module: too-high in element 0",
+        ),
+        (
+            b"\x05\x03\x01\0\x01",
+            11,
+            b"\x01\0",
+            b"\0",
+            "module: too-high in data 0",
+        ),
+    ];
+    for (before, id, head, tail, wanted) in parts {
+        let found = told_of_constants(&rt, before, id, head, tail)?;
+        assert!(rt; found.as_str() == wanted, "{found}, not {wanted}");
+    }
     Ok(())
 }

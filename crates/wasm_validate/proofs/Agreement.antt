@@ -73,6 +73,9 @@ none_missing : (r : Option ValueType) → listed r ≡ [] → missing sorts.If r
 none_missing None e = refl
 none_missing (Some t) e = absurd cc
 
+given_same : (r : Option ValueType) (q u p : Operands) → q ≡ u → given r u ≡ Ok p → given r q ≡ Ok p
+given_same r q u p e h = rw e h
+
 pub walk_typed : (body : Body) (c : Setting) (labels : Labels) (n : ℕ) (o : Operands) (e : ℕ × Operands) → walk body c labels n o ≡ Ok e → Walked body c labels o e
 walk_typed Done c labels n o e h =
     let same = ok_is {E = ValidKind × ℕ} (n, o) e h in
@@ -130,7 +133,7 @@ walk_typed (InIf r inner rest) c labels n o e h =
     let m = unless_ok q u.0 (missing sorts.If r) u.1 in
     let w = walk_typed inner c (r ∷ labels) (n + 1) (fresh q) a.0 a.1 in
     let t = from_none inner c (r ∷ labels) (fresh q) a.0 r d.0 refl refl w d.1 in
-    let f = round r rest c labels q b.0 e (subst (λ (v : Operands). given r v ≡ Ok b.0) (sym m.1) u.2) (walk_typed rest c labels a.0.0 b.0 e b.2) in
+    let f = round r rest c labels q b.0 e (given_same r q u.0 b.0 m.1 u.2) (walk_typed rest c labels a.0.0 b.0 e b.2) in
     record {
       base = f.0 ∙ s.base;
       image = λ ys g.
