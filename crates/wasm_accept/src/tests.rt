@@ -79,26 +79,26 @@ fn heights(rt: HostRuntime) -> Result<(), Fail> {
     // unreachable drop: what is taken from below isn't counted
     let below = told_of_height(&rt, 1024, b"\0\x1A")?;
     assert!(rt; below.as_str() == "ok");
-    let parts: [(&[u8], u8, &[u8], &[u8], &str); 3] = [
-        (b"", 6, b"\x01\x7F\0", b"", "module: too-high in global 0"),
+    let parts: [(&[u8], u8, &[u8], &[u8], &[u8]); 3] = [
+        (b"", 6, b"\x01\x7F\0", b"", b"module: too-high in global 0"),
         (
             b"\x04\x04\x01p\0\x01",
             9,
             b"\x01\0",
             b"\0",
-            "module: too-high in element 0",
+            b"module: too-high in element 0",
         ),
         (
             b"\x05\x03\x01\0\x01",
             11,
             b"\x01\0",
             b"\0",
-            "module: too-high in data 0",
+            b"module: too-high in data 0",
         ),
     ];
     for (before, id, head, tail, wanted) in parts {
         let found = told_of_constants(&rt, before, id, head, tail)?;
-        assert!(rt; found.as_str() == wanted, "{found}, not {wanted}");
+        assert!(rt; found.as_bytes() == wanted, "{head:?}");
     }
     Ok(())
 }
