@@ -65,20 +65,20 @@ fn first_wrong(types: &[FuncType], imports: &[Import]) -> Option<u32>
     None
 }
 
-fn is_start(module: &Module, export: &Export) -> bool
-    ensures { result ≡ is_start module.now export.now }
+fn is_start(whole: &Module, export: &Export) -> bool
+    ensures { result ≡ is_start whole.now export.now }
 {
     matches!(export.kind, ExportKind::Function)
         && export.name.items() == b"_start".as_slice()
-        && is_plain(function_type(module, export.index))
+        && is_plain(function_type(whole, export.index))
 }
 
 /// The function without parameters and result that is exported as `_start`.
-fn start_of(module: &Module) -> Option<u32>
-    ensures { result ≡ start_of module.now }
+fn start_of(whole: &Module) -> Option<u32>
+    ensures { result ≡ start_of whole.now }
 {
-    for export in module.exports.items() {
-        if is_start(module, export) {
+    for export in whole.exports.items() {
+        if is_start(whole, export) {
             return Some(export.index);
         }
     }
@@ -103,10 +103,10 @@ fn exports_memory(exports: &[Export]) -> bool
 }
 
 /// Whether a memory is exported as `memory`, where there is an import.
-fn has_memory(module: &Module) -> bool
-    ensures { result ≡ has_memory module.now }
+fn has_memory(whole: &Module) -> bool
+    ensures { result ≡ has_memory whole.now }
 {
-    module.imports.items().is_empty() || exports_memory(module.exports.items())
+    whole.imports.items().is_empty() || exports_memory(whole.exports.items())
 }
 
 /// The call of each import.
@@ -123,22 +123,22 @@ fn calls_of(alloc: Global, imports: &[Import]) -> Result<Items<Hostcall>, AllocE
 }
 
 /// Links a module to the calls that it imports.
-pub fn links_of(alloc: Global, module: &Module) -> Result<Links, LinkRefusal>
-    ensures { IsLinkedAs (linked module.now) result }
+pub fn links_of(alloc: Global, whole: &Module) -> Result<Links, LinkRefusal>
+    ensures { IsLinkedAs (linked whole.now) result }
 {
-    if let Some(index) = first_unknown(module.imports.items()) {
+    if let Some(index) = first_unknown(whole.imports.items()) {
         return Err(LinkRefusal::UnknownImport(index));
     }
-    if let Some(index) = first_wrong(module.types.items(), module.imports.items()) {
+    if let Some(index) = first_wrong(whole.types.items(), whole.imports.items()) {
         return Err(LinkRefusal::WrongType(index));
     }
-    let Some(start) = start_of(module) else {
+    let Some(start) = start_of(whole) else {
         return Err(LinkRefusal::NoStart);
     };
-    if !has_memory(module) {
+    if !has_memory(whole) {
         return Err(LinkRefusal::NoMemory);
     }
-    match calls_of(alloc, module.imports.items()) {
+    match calls_of(alloc, whole.imports.items()) {
         Ok(calls) => Ok(Links { calls, start }),
         Err(_) => Err(LinkRefusal::OutOfMemory),
     }

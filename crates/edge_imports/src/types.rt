@@ -104,9 +104,9 @@ fn type_among(imports: &[Import], functions: &[u32], index: u32) -> Option<u32>
 }
 
 /// The type of a function.
-pub fn function_type(module: &Module, index: u32) -> Option<&FuncType>
-    ensures { option_copied result ≡ type_at module.now.types (slice_get (function_types module.now) index) }
+pub fn function_type(whole: &Module, index: u32) -> Option<&FuncType>
+    ensures { option_copied result ≡ type_at whole.now.types (slice_get (function_types whole.now) index) }
 {
-    let function = type_among(module.imports.items(), module.functions.items(), index);
-    type_at(module.types.items(), function)
+    let function = type_among(whole.imports.items(), whole.functions.items(), index);
+    type_at(whole.types.items(), function)
 }

@@ -1,12 +1,13 @@
 -- What a scripted guest does: Begin, its lines in order, End.
 use Rattle.std.specs.Prelude.{ℕ, Bool, true, false, List, [], ◌∷◌, length, nat_lt, ◌==◌, slice_get, slice_index, Option, None, Some, option_map, if◌then◌else◌}
 use Rattle.cache_types.specs.declared.calls.CacheCall.{CacheCall}
-use Rattle.cache_types.specs.declared.calls.CacheCall.TheVariants.{Begin, TxInsert, TxUpdate, TxCancel, Close, Write, Finish, Abandon, Read, End}
+use Rattle.cache_types.specs.declared.calls.CacheCall.TheVariants.{Begin, End}
 use Rattle.cache_types.specs.declared.replies.Reply.{Reply}
 use Rattle.cache_types.specs.declared.replies.Reply.TheVariants.{Got, Made}
 use Rattle.call_lines.specs.declared.line.Named.{Named}
 use Rattle.call_lines.specs.declared.line.Named.TheVariants as named
 use Rattle.call_lines.specs.declared.line.Line.{Line}
+use Rattle.call_lines.specs.Lines.{with_name}
 
 abbrev pub is_got_or_made : Reply → Bool
 is_got_or_made (Got bits hit) = true
@@ -24,17 +25,6 @@ name_in values (named.Line n) = slice_index values n
 name_in values (named.Number n) = n
 
 -- the call with this number in the place of the entry that it names
-abbrev pub with_name : ℕ → CacheCall → CacheCall
-with_name name (TxInsert tx writing) = TxInsert name writing
-with_name name (TxUpdate tx terms) = TxUpdate name terms
-with_name name (TxCancel tx) = TxCancel name
-with_name name (Close tx) = Close name
-with_name name (Write object piece) = Write name piece
-with_name name (Finish object) = Finish name
-with_name name (Abandon object) = Abandon name
-with_name name (Read hit place most) = Read name place most
-with_name name call = call
-
 abbrev pub call_of : List ℕ → Line → CacheCall
 call_of values line = with_name (name_in values line.named) line.call
 

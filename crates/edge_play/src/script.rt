@@ -1,5 +1,6 @@
 ghost use Rattle.std.specs.Prelude.{◌≡◌, IfOk};
-ghost use Rattle.edge_play.specs.Script.{is_got_or_made, value_of, name_in, with_name, call_of, line_call, next_call};
+ghost use Rattle.call_lines.specs.Lines.{with_name};
+ghost use Rattle.edge_play.specs.Script.{is_got_or_made, value_of, name_in, call_of, line_call, next_call};
 
 use cache_types::{CacheCall, Copied, Reply};
 use call_lines::{Line, Named};
