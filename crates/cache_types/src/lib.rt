@@ -6,9 +6,9 @@
 #![tactic(auto)]
 
 mod calls;
+mod copied;
 mod entries;
 mod freshness;
-mod items;
 mod limits;
 mod octets;
 mod one_cache;
@@ -21,9 +21,10 @@ mod rows;
 mod rule;
 
 pub use calls::{CacheCall, Field, Fields, Terms, Writing};
+pub use copied::Copied;
 pub use entries::{Entry, History, StepFault, Stepped};
 pub use freshness::{bits_of, is_fresh_at, is_usable_at};
-pub use items::{Copied, Items};
+pub use items::Items;
 pub use limits::{is_cache_key, is_header_name, is_surrogate_key};
 pub use octets::{Octets, OctetsList};
 pub use one_cache::OneCache;

@@ -1,6 +1,6 @@
-use crate::items::Items;
 use crate::types::ValueType;
 use crate::values::Value;
+use items::Items;
 
 /// An instruction (section 2.4), or one of the two words that part and close blocks.
 ///

@@ -8,7 +8,6 @@
 #![tactic(auto)]
 
 mod instructions;
-mod items;
 mod modules;
 mod types;
 mod values;

@@ -1,6 +1,6 @@
 use crate::instructions::Instr;
-use crate::items::Items;
 use crate::types::{FuncType, GlobalType, Limits, ValueType};
+use items::Items;
 
 /// A module (section 2.5). Indices of functions, tables, memories and globals count the imported ones first.
 #[derive(Clone, Debug, Drop, PartialEq, Eq)]

@@ -2,7 +2,7 @@ use super::*;
 use std::test::Fail;
 
 #[test]
-fn items(rt: HostRuntime) -> Result<(), Fail> {
+fn a_table_of_labels(rt: HostRuntime) -> Result<(), Fail> {
     let labels = Items::of([1u32, 2].to_vec(rt.alloc())?);
     assert_eq!(rt; labels.items(), [1, 2].as_slice());
     let table = Instr::BrTable { labels, other: 3 };

@@ -1,4 +1,4 @@
-use crate::items::Items;
+use items::Items;
 
 /// A number type without floating point (section 2.3.1).
 #[derive(Clone, Copy, Debug, PartialEq, Eq)]

@@ -1,4 +1,4 @@
-use crate::items::Items;
+use items::Items;
 
 /// A number as its bits, not as a signed one (section 2.2.2).
 #[derive(Clone, Copy, Debug, PartialEq, Eq)]

@@ -1,17 +1,12 @@
-ghost use Rattle.std.specs.Prelude.{◌≡◌, IfOk};
+//! Lists inside public values: a `Vec` that contracts see as the list of its items.
+#![tactic(auto)]
 
-use std::alloc::{AllocError, Global};
+ghost use Rattle.std.specs.Prelude.{◌≡◌};
+
 use std::marker::Model;
 
-/// A value of which an equal one can be made.
-pub trait Copied {
-    /// An equal value, in memory of its own.
-    fn copy(&self, alloc: Global) -> Result<Self, AllocError>
-        ensures { IfOk result (λ copy. copy ≡ self.now) };
-}
-
-/// A list inside a public value, which contracts see as a list.
-#[derive(Debug, Drop)]
+/// A list inside a public value. Contracts see the list of its items.
+#[derive(Debug, Drop, Clone)]
 pub struct Items<T> {
     items: Vec<T>,
 }
@@ -40,16 +35,6 @@ impl<T> Items<T> {
     }
 }
 
-impl<T: Copied + Drop> Copied for Items<T> {
-    fn copy(&self, alloc: Global) -> Result<Items<T>, AllocError> {
-        let mut items = Vec::new(alloc);
-        for item in self.items.as_slice() {
-            items.push(item.copy(alloc)?)?;
-        }
-        Ok(Items { items })
-    }
-}
-
 impl<T: PartialEq> PartialEq for Items<T> {
     ghost use Rattle.std.specs.Cmp.Lexicographic.{pointwise, lists_per};
 
@@ -61,3 +46,12 @@ impl<T: PartialEq> PartialEq for Items<T> {
         self.items() == other.items()
     }
 }
+
+impl<T: Eq> Eq for Items<T> {
+    ghost use Rattle.std.specs.Cmp.Lexicographic.{lists_equiv};
+
+    ghost laws = { lists_equiv T.Eq.laws };
+}
+
+#[cfg(test)]
+mod tests;
