@@ -1,0 +1,4 @@
+//! Writes WebAssembly modules.
+#![tactic(auto)]
+
+mod numbers;
