@@ -2,3 +2,5 @@
 #![tactic(auto)]
 
 mod numbers;
+mod opcodes;
+mod vectors;
