@@ -1,6 +1,8 @@
 //! Writes WebAssembly modules.
 #![tactic(auto)]
 
+mod instructions;
 mod numbers;
 mod opcodes;
+mod types;
 mod vectors;

@@ -19,8 +19,12 @@ pub(crate) trait Spelling {
         ensures { IfOk result (λ _. out.new.items ≡ out.old.items ++ text self.now item.now) };
 }
 
-// The items, one after another.
-fn write_all<F: Spelling>(out: &mut Vec<u8>, field: &F, items: &[F::Item]) -> Result<(), AllocError>
+/// The items, one after another.
+pub(crate) fn write_all<F: Spelling>(
+    out: &mut Vec<u8>,
+    field: &F,
+    items: &[F::Item],
+) -> Result<(), AllocError>
     ensures { IfOk result (λ _. out.new.items ≡ out.old.items ++ flat_map (F.text field.now) items.now) }
 {
     for item in items {
