@@ -4,5 +4,7 @@
 mod instructions;
 mod numbers;
 mod opcodes;
+mod parts;
+mod sections;
 mod types;
 mod vectors;
