@@ -1,8 +1,8 @@
 -- Spellings that are in the grammar and are the shortest there, and how they are put together.
-use Rattle.std.proofs.Common.{◌≡◌, ℕ, suc, ◌+◌, ◌<◌, ◌≤◌, List, [], ◌∷◌, ◌++◌, length, refl, sym, ap, subst, arith, append_assoc, ◌∙◌}
+use Rattle.std.proofs.Common.{◌≡◌, ℕ, suc, ◌+◌, ◌<◌, ◌≤◌, List, [], ◌∷◌, ◌++◌, length, refl, sym, subst, arith, append_assoc}
 use Rattle.std.specs.List.{flat_map}
-use Rattle.std.proofs.lemmas.List.{length-append, append-nil}
-use Rattle.wasm_code.specs.Grammar.{Behind, AreMany}
+use Rattle.std.proofs.lemmas.List.{length-append}
+use Rattle.wasm_code.specs.Grammar.{AreMany}
 use Rattle.wasm_writer.specs.Shortest.{AreOctets}
 
 -- numbers that bytes can be, one after the other

@@ -1,8 +1,8 @@
 -- Locals in the fewest groups, and the code of functions.
-use Rattle.std.proofs.Common.{◌≡◌, ◌⊎◌, ℕ, zero, suc, ◌+◌, ◌<◌, ◌≤◌, Bool, true, false, cond, List, [], ◌∷◌, ◌++◌, length, replicate, refl, sym, ap, subst, arith, append_assoc, ◌∙◌, inl, inr}
+use Rattle.std.proofs.Common.{◌≡◌, ◌⊎◌, ℕ, zero, suc, ◌+◌, ◌<◌, ◌≤◌, true, List, [], ◌∷◌, ◌++◌, length, replicate, refl, sym, ap, subst, arith, append_assoc, ◌∙◌, inl, inr}
 use Rattle.std.specs.List.{flat_map}
 use Rattle.std.proofs.lemmas.Bool.{cases_Bool}
-use Rattle.std.proofs.lemmas.List.{length-append, length-replicate, append-nil}
+use Rattle.std.proofs.lemmas.List.{length-append, length-replicate}
 use Rattle.wasm_types.specs.declared.types.ValueType.{ValueType}
 use Rattle.wasm_types.specs.declared.types.ValueType.TheVariants as types
 use Rattle.wasm_types.specs.declared.types.FuncType.{FuncType}
@@ -10,8 +10,8 @@ use Rattle.wasm_types.specs.declared.modules.Code.{Code}
 use Rattle.wasm_code.specs.Grammar.{AreMany, IsU32, IsValueType, IsExpression}
 use Rattle.wasm_reader.specs.Grammar.{Group, IsGroup, locals_of, AreLocals, IsBody, AreBodies, AreCode, IsSized, params_of}
 use Rattle.wasm_writer.specs.Numbers.{number_text}
-use Rattle.wasm_writer.specs.Spelled.{vector_text, type_byte, type_text, same_type, one_more, groups_of, group_text, code_text, body_text, sized_body_text}
-use Rattle.wasm_writer.proofs.Best.{Octets, Beats, IsBest, AreBest, best_nothing, best_after, best_given, best_many}
+use Rattle.wasm_writer.specs.Spelled.{vector_text, type_text, same_type, one_more, groups_of, group_text, code_text, body_text, sized_body_text}
+use Rattle.wasm_writer.proofs.Best.{IsBest, AreBest, best_nothing, best_after, best_given, best_many}
 use Rattle.wasm_writer.proofs.BestNumbers.{u32_spells, u32_below, u32_best, number_fewer, sum_fewer}
 use Rattle.wasm_writer.proofs.BestParts.{value_type_best, sized_best, expression_best}
 
@@ -85,11 +85,11 @@ one_joins kind [] = record { old = 0; tail = []; is = refl; from = inl (refl, re
 one_joins kind (g ∷ groups) =
     elim (cases_Bool (same_type kind g.kind)) [
       | inl t ↦ record {
-          old = g.count;
-          tail = groups;
-          is = rw t (with_same (suc g.count) (g.count + 1) g.kind kind groups (omega arith) (sym (same_is kind g.kind t)));
-          from = inr (with_same g.count g.count g.kind kind groups refl (sym (same_is kind g.kind t)));
-        }
+        old = g.count;
+        tail = groups;
+        is = rw t (with_same (suc g.count) (g.count + 1) g.kind kind groups (omega arith) (sym (same_is kind g.kind t)));
+        from = inr (with_same g.count g.count g.kind kind groups refl (sym (same_is kind g.kind t)));
+      }
       | inr f ↦ record { old = 0; tail = g ∷ groups; is = rw f refl; from = inl (refl, refl) }
     ]
 
@@ -196,7 +196,7 @@ unfolding body_text
 body_best params c =
     let locals = vector_text group_text (groups_of c.locals) in
     best_under (λ b r. (mid : List ℕ) × AreLocals b c.locals mid × IsExpression mid c.body r) (params + length c.locals ≤ 4096) (locals ++ code_text c.body) (λ few.
-        best_after (λ b r. AreLocals b c.locals r) (λ b r. IsExpression b c.body r) locals (code_text c.body) (locals_best c.locals (omega (arith, few))) (expression_best c.body))
+    best_after (λ b r. AreLocals b c.locals r) (λ b r. IsExpression b c.body r) locals (code_text c.body) (locals_best c.locals (omega (arith, few))) (expression_best c.body))
 
 sized_body_best : (params : ℕ) → AreBest (IsSized (IsBody params)) sized_body_text
 unfolding sized_body_text
@@ -213,4 +213,4 @@ code_best kinds functions cs =
     let number = number_text (length cs) in
     let bodies = flat_map sized_body_text cs in
     best_given (λ b r. (mid : List ℕ) × IsU32 b (length cs) mid × AreBodies kinds functions 0 mid cs r) (length cs ≤ 65536) (number ++ bodies) (
-        best_after (λ b r. IsU32 b (length cs) r) (λ b r. AreBodies kinds functions 0 b cs r) number bodies (u32_best (length cs)) (bodies_best kinds functions 0 cs))
+    best_after (λ b r. IsU32 b (length cs) r) (λ b r. AreBodies kinds functions 0 b cs r) number bodies (u32_best (length cs)) (bodies_best kinds functions 0 cs))

@@ -1,9 +1,10 @@
 -- The text of a module is in the grammar, and the shortest there.
-use Rattle.std.proofs.Common.{◌≡◌, ◌⊎◌, ℕ, zero, suc, ◌+◌, ◌≤◌, List, [], ◌∷◌, ◌++◌, length, Option, Some, None, refl, sym, subst, arith, inl, inr}
+use Rattle.std.proofs.Common.{◌≡◌, ℕ, zero, suc, ◌+◌, ◌≤◌, List, [], ◌∷◌, ◌++◌, length, Option, Some, None, Result, Ok, Err, refl, sym, subst, arith, inl, inr}
+use Rattle.std.specs.Prelude.{IfOk}
 use Rattle.std.proofs.lemmas.List.{length-append, append-nil}
 use Rattle.wasm_types.specs.declared.modules.Module.{Module}
 use Rattle.wasm_code.specs.Grammar.{IsU32, IsVector}
-use Rattle.wasm_reader.specs.Grammar.{IsList, IsTable, IsMemory, IsFuncType, IsImport, IsGlobal, IsExport, IsElement, IsSegment, IsSized, AreCode, IsStart, AreCustoms, IsOptional, Section, ◌>>◌, Ends, AreSections, IsModule}
+use Rattle.wasm_reader.specs.Grammar.{IsList, IsTable, IsMemory, IsFuncType, IsImport, IsGlobal, IsExport, IsElement, IsSegment, IsSized, AreCode, IsStart, AreCustoms, Section, ◌>>◌, Ends, AreSections, IsModule}
 use Rattle.wasm_writer.specs.Numbers.{number_text}
 use Rattle.wasm_writer.specs.Spelled.{vector_text, bytes_text, func_type_text, limits_text, table_text, import_text, global_text, export_text, element_text, segment_text, sized_body_text, section_text, list_text, start_text, module_text}
 use Rattle.wasm_writer.specs.Shortest.{ReadsBack, IsShortest}
@@ -33,10 +34,10 @@ left_best {A} id none Is text best bytes rest all is =
     let customs = customs_least is.0 bytes is.1 all is.2 in
     elim is.3 [
       | inl nothing ↦ record {
-          spells = λ after. (0, after, refl, inl (refl, refl));
-          fewest = subst (λ (b : List ℕ). 0 + length b ≤ length bytes) nothing.1 (omega (arith, customs.0));
-          octets = subst Octets nothing.1 customs.1;
-        }
+        spells = λ after. (0, after, refl, inl (refl, refl));
+        fewest = subst (λ (b : List ℕ). 0 + length b ≤ length bytes) nothing.1 (omega (arith, customs.0));
+        octets = subst Octets nothing.1 customs.1;
+      }
       | inr written ↦
           let one = best_behind (λ b r. IsSized Is b none r) id (bytes_text text) (sized_best Is none text best) is.1 rest customs.1 written in
           record {
@@ -137,15 +138,22 @@ module_least m other all is =
     let start = is.sections.0 in
     let tail : Octets (0x00 ∷ 0x61 ∷ 0x73 ∷ 0x6D ∷ 0x01 ∷ 0x00 ∷ 0x00 ∷ 0x00 ∷ start) = subst Octets is.sections.1 all in
     let made = (sections_close m).made start tail.1.1.1.1.1.1.1.1 is.sections.2 in
-    let longer : length other ≡ 8 + length start = subst (λ (b : List ℕ). length b ≡ 8 + length start) (sym is.sections.1) (omega arith) in
-    (record {
-      size = omega (arith, is.size, made.1, longer);
-      sections = (sections_text m, refl, made.0);
-      same_count = is.same_count;
-    }, omega (arith, made.1, longer))
+    let longer : length other ≡ 8 + length start = subst (λ (b : List ℕ). length b ≡ 8 + length start) (sym is.sections.1) (omega arith) in (
+      record {
+        size = omega (arith, is.size, made.1, longer);
+        sections = (sections_text m, refl, made.0);
+        same_count = is.same_count;
+      },
+      omega (arith, made.1, longer),
+    )
 
 pub module_reads : (m : Module) → ReadsBack m (module_text m)
 module_reads m other all is = (module_least m other (octets_of other all) is).0
 
 pub module_shortest : (m : Module) → IsShortest m (module_text m)
 module_shortest m other all is = (module_least m other (octets_of other all) is).1
+
+-- what holds of each value that is the text
+pub written : {T E : Type 0} (items : T → List ℕ) (m : Module) (Holds : List ℕ → Type 0) (r : Result T E) → Holds (module_text m) → IfOk r (λ bytes. items bytes ≡ module_text m) → IfOk r (λ bytes. Holds (items bytes))
+written items m Holds (Ok bytes) holds is = subst Holds (sym is) holds
+written items m Holds (Err e) holds is = tt

@@ -1,10 +1,10 @@
 -- The spellings of numbers are in the grammar and the shortest.
-use Rattle.std.proofs.Common.{◌≡◌, ℕ, zero, suc, ◌+◌, ◌-◌, ◌*◌, ◌/◌, ◌%◌, ◌<◌, ◌≤◌, Bool, true, false, ltb, leb, List, [], ◌∷◌, ◌++◌, length, refl, sym, ap, subst, arith, inl, inr}
+use Rattle.std.proofs.Common.{◌≡◌, ℕ, zero, suc, ◌+◌, ◌-◌, ◌*◌, ◌/◌, ◌%◌, ◌<◌, ◌≤◌, false, ltb, leb, List, [], ◌∷◌, ◌++◌, length, refl, arith, inl, inr}
 use Rattle.std.proofs.lemmas.Bool.{cases_Bool, ltb-true, ltb-false, lt-ltb, le-ltb, leb-true, leb-false}
 use Rattle.wasm_code.specs.Grammar.{IsUnsigned, IsU32}
 use Rattle.wasm_writer.specs.Numbers.{number_text}
 use Rattle.wasm_writer.proofs.Leb.{number_last, number_step}
-use Rattle.wasm_writer.proofs.Best.{Octets, Beats, IsBest, AreBest}
+use Rattle.wasm_writer.proofs.Best.{Octets, AreBest}
 
 -- s times so many powers of 128
 abbrev pub scaled : ℕ → ℕ → ℕ

@@ -1,25 +1,20 @@
 -- The spellings of vectors, names, types and instructions are in the grammar and the shortest.
-use Rattle.std.proofs.Common.{◌≡◌, ℕ, ◌+◌, ◌<◌, ◌≤◌, Bool, true, false, List, [], ◌∷◌, ◌++◌, length, Option, Some, None, refl, sym, ap, subst, arith, append_assoc}
+use Rattle.std.proofs.Common.{◌≡◌, ℕ, ◌<◌, ◌≤◌, List, [], ◌∷◌, ◌++◌, length, Option, Some, None, sym, subst, arith, append_assoc}
 use Rattle.std.specs.Prelude.{IsUtf8, IfSome}
 use Rattle.std.specs.List.{flat_map}
 use Rattle.std.specs.Option.{option_to_list}
 use Rattle.std.proofs.lemmas.List.{length-append, append-nil}
-use Rattle.wasm_types.specs.declared.types.ValueType.{ValueType}
 use Rattle.wasm_types.specs.declared.types.ValueType.TheVariants as types
-use Rattle.wasm_types.specs.declared.types.FuncType.{FuncType}
-use Rattle.wasm_types.specs.declared.types.Limits.{Limits}
-use Rattle.wasm_types.specs.declared.types.GlobalType.{GlobalType}
 use Rattle.wasm_types.specs.declared.values.Value.TheVariants as values
-use Rattle.wasm_types.specs.declared.instructions.Instr.{Instr}
 use Rattle.wasm_types.specs.declared.instructions.Instr.TheVariants.{Unreachable, Nop, Block, Loop, If, Else, End, Br, BrIf, BrTable, Return, Call, CallIndirect, Drop, Select, LocalGet, LocalSet, LocalTee, GlobalGet, GlobalSet, Load, Store, MemorySize, MemoryGrow, Const, I32Test, I32Compare, I32Unary, I32Binary, I64Test, I64Compare, I64Unary, I64Binary}
 use Rattle.wasm_types.specs.declared.instructions.Instr.TheVariants as instrs
 use Rattle.wasm_types.specs.Nested.{NestsWithin}
 use Rattle.wasm_code.specs.Opcodes.{opcode_of}
 use Rattle.wasm_code.specs.Grammar.{AreMany, IsU32, IsVector, IsValueType, IsResult, AreTwo, AreOperands, IsInstr, IsExpression}
 use Rattle.wasm_reader.specs.Grammar.{IsList, AreBytes, IsName, IsFuncType, IsSize, IsLimits, IsMemory, IsTable, flag_byte, IsGlobalType, IsSized}
-use Rattle.wasm_writer.specs.Numbers.{number_text, i32_text, i64_text}
-use Rattle.wasm_writer.specs.Spelled.{vector_text, bytes_text, type_byte, result_byte, type_text, func_type_text, size_text, limits_text, table_text, global_type_text, operands_text, instr_text, code_text}
-use Rattle.wasm_writer.proofs.Best.{Octets, Beats, IsBest, AreBest, octets_front, octets_rest, best_nothing, best_behind, best_byte, best_after, best_before, best_as, best_beside, best_given, best_many}
+use Rattle.wasm_writer.specs.Numbers.{number_text}
+use Rattle.wasm_writer.specs.Spelled.{vector_text, bytes_text, result_byte, type_text, func_type_text, size_text, limits_text, table_text, global_type_text, operands_text, instr_text, code_text}
+use Rattle.wasm_writer.proofs.Best.{IsBest, AreBest, octets_front, octets_rest, best_nothing, best_behind, best_byte, best_after, best_before, best_as, best_beside, best_given, best_many}
 use Rattle.wasm_writer.proofs.BestNumbers.{u32_spells, u32_below, u32_best, number_fewer}
 use Rattle.wasm_writer.proofs.BestSigned.{s32_best, s64_best}
 
@@ -29,7 +24,7 @@ pub vector_best : {A : Type 0} (limit : ℕ) (Is : List ℕ → A → List ℕ �
 unfolding vector_text
 vector_best {A} limit Is text best xs =
     best_given (λ b r. (mid : List ℕ) × IsU32 b (length xs) mid × AreMany Is mid xs r) (length xs ≤ limit) (number_text (length xs) ++ flat_map text xs) (
-        best_after (λ b r. IsU32 b (length xs) r) (λ b r. AreMany Is b xs r) (number_text (length xs)) (flat_map text xs) (u32_best (length xs)) (best_many Is text best xs))
+    best_after (λ b r. IsU32 b (length xs) r) (λ b r. AreMany Is b xs r) (number_text (length xs)) (flat_map text xs) (u32_best (length xs)) (best_many Is text best xs))
 
 pub bytes_best : AreBest AreBytes bytes_text
 unfolding bytes_text
@@ -70,10 +65,10 @@ func_type_best t =
     let params = vector_text type_text t.params in
     let found = vector_text type_text (option_to_list t.result) in
     best_as (λ b r. (start : List ℕ) × (b ≡ 0x60 ∷ start) × ((mid : List ℕ) × Params start mid × Result mid r)) (λ b r. IsFuncType b t r) (0x60 ∷ (params ++ found)) (
-        best_behind (λ b r. (mid : List ℕ) × Params b mid × Result mid r) 0x60 (params ++ found) (
-            best_after Params Result params found (vector_best 4294967295 IsValueType type_text value_type_best t.params) (vector_best 1 IsValueType type_text value_type_best (option_to_list t.result))))
-        (λ b r is. (is.0, is.2, (is.1, is.3, is.4)))
-        (λ b r is. (is.0, is.2.0, is.1, is.2.1, is.2.2))
+    best_behind (λ b r. (mid : List ℕ) × Params b mid × Result mid r) 0x60 (params ++ found) (
+    best_after Params Result params found (vector_best 4294967295 IsValueType type_text value_type_best t.params) (vector_best 1 IsValueType type_text value_type_best (option_to_list t.result))))
+    (λ b r is. (is.0, is.2, (is.1, is.3, is.4)))
+    (λ b r is. (is.0, is.2.0, is.1, is.2.1, is.2.2))
 
 two_best : (first second : ℕ) → IsBest (λ bytes rest. AreTwo bytes first second rest) (number_text first ++ number_text second)
 two_best first second = best_after (λ b r. IsU32 b first r) (λ b r. IsU32 b second r) (number_text first) (number_text second) (u32_best first) (u32_best second)
@@ -88,9 +83,9 @@ limits_best least most l =
     let Fits : Type 0 = (l.least ≤ least) × IfSome l.most (λ n. n ≤ most) in
     let text = size_text l.least l.most in
     best_as (λ b r. IsSize l.least l.most b r × Fits) (λ b r. IsLimits least most b l r) text (
-        best_beside (λ b r. IsSize l.least l.most b r) Fits text (size_best l.least l.most))
-        (λ b r is. (is.0, (is.1, is.2)))
-        (λ b r is. (is.0, is.1.0, is.1.1))
+    best_beside (λ b r. IsSize l.least l.most b r) Fits text (size_best l.least l.most))
+    (λ b r is. (is.0, (is.1, is.2)))
+    (λ b r is. (is.0, is.1.0, is.1.1))
 
 pub memory_best : AreBest IsMemory limits_text
 memory_best = limits_best 2048 65536

@@ -1,10 +1,10 @@
 -- The spellings of signed numbers are in the grammar and the shortest.
-use Rattle.std.proofs.Common.{◌≡◌, ℕ, zero, suc, ◌+◌, ◌-◌, ◌*◌, ◌/◌, ◌%◌, ◌<◌, ◌≤◌, Bool, true, false, ltb, leb, cond, List, [], ◌∷◌, ◌++◌, length, Option, Some, None, refl, sym, ap, ◌∙◌, subst, arith, inl, inr}
+use Rattle.std.proofs.Common.{◌≡◌, ℕ, zero, suc, ◌+◌, ◌-◌, ◌*◌, ◌/◌, ◌%◌, ◌<◌, ◌≤◌, Bool, true, false, ltb, leb, List, [], ◌∷◌, ◌++◌, length, Option, Some, None, refl, sym, ap, ◌∙◌, subst, arith, inl, inr}
 use Rattle.std.proofs.lemmas.Bool.{cases_Bool, ltb-true, ltb-false, lt-ltb, le-ltb, leb-true, le-leb}
 use Rattle.wasm_code.specs.Grammar.{last_signed, IsSigned, IsS32, IsS64}
 use Rattle.wasm_writer.specs.Numbers.{seven_bits, signed_text, i32_text, i64_text}
 use Rattle.wasm_writer.proofs.Leb.{signed_last, signed_step}
-use Rattle.wasm_writer.proofs.Best.{Octets, Beats, IsBest, AreBest}
+use Rattle.wasm_writer.proofs.Best.{Octets, Beats, AreBest}
 use Rattle.wasm_writer.proofs.BestNumbers.{scaled}
 
 -- a number of so many bits in two's complement: itself, or the negative one whose complement it is
@@ -78,35 +78,35 @@ last_least half b n bytes rest one all is same =
     let halved : 2 * half / 2 ≡ half = omega arith in
     elim (cases_Bool (ltb b 64)) [
       | inl low ↦ elim (cases_Bool (ltb b half)) [
-          | inl fits ↦
-              let found = some_is b n (rw (halved, low, fits) at is) in
-              let short = ltb-true b 64 low in
-              record {
-                negative = false;
-                number = b;
-                below = ltb-true b half fits;
-                is = sym found;
-                fewest = rw (signed_last false b short, same) (omega arith);
-                octets = subst Octets same all;
-              }
-          | inr over ↦ none_is n (rw (halved, low, over) at is)
-        ]
+        | inl fits ↦
+            let found = some_is b n (rw (halved, low, fits) at is) in
+            let short = ltb-true b 64 low in
+            record {
+              negative = false;
+              number = b;
+              below = ltb-true b half fits;
+              is = sym found;
+              fewest = rw (signed_last false b short, same) (omega arith);
+              octets = subst Octets same all;
+            }
+        | inr over ↦ none_is n (rw (halved, low, over) at is)
+      ]
       | inr high ↦ elim (cases_Bool (leb 128 (half + b))) [
-          | inl fits ↦
-              let found = some_is (2 * half + b - 128) n (rw (halved, high, fits) at is) in
-              let above = ltb-false b 64 high in
-              let least = leb-true 128 (half + b) fits in
-              let short : 127 - b < 64 = omega (arith, above) in
-              record {
-                negative = true;
-                number = 127 - b;
-                below = omega (arith, least, one);
-                is = omega (arith, found, least, one);
-                fewest = rw (signed_last true (127 - b) short, same) (omega arith);
-                octets = subst Octets same all;
-              }
-          | inr over ↦ none_is n (rw (halved, high, over) at is)
-        ]
+        | inl fits ↦
+            let found = some_is (2 * half + b - 128) n (rw (halved, high, fits) at is) in
+            let above = ltb-false b 64 high in
+            let least = leb-true 128 (half + b) fits in
+            let short : 127 - b < 64 = omega (arith, above) in
+            record {
+              negative = true;
+              number = 127 - b;
+              below = omega (arith, least, one);
+              is = omega (arith, found, least, one);
+              fewest = rw (signed_last true (127 - b) short, same) (omega arith);
+              octets = subst Octets same all;
+            }
+        | inr over ↦ none_is n (rw (halved, high, over) at is)
+      ]
     ]
 
 -- seven bits more before the groups of a number
@@ -202,10 +202,10 @@ pub s32_best : AreBest IsS32 i32_text
 s32_best n bytes rest all is =
     let least = signed_least 4 8 bytes rest n (omega arith) all is in
     best_of 4294967296 2147483648 n bytes rest (i32_text n) least (ap i32_text least.is ∙ i32_is least.negative least.number least.below) (λ after.
-        subst (λ (k : ℕ). IsSigned 4294967296 (signed_text least.negative least.number ++ after) k after) (sym least.is) (signed_spells least.negative 4 8 least.number after (omega arith) least.below))
+    subst (λ (k : ℕ). IsSigned 4294967296 (signed_text least.negative least.number ++ after) k after) (sym least.is) (signed_spells least.negative 4 8 least.number after (omega arith) least.below))
 
 pub s64_best : AreBest IsS64 i64_text
 s64_best n bytes rest all is =
     let least = signed_least 9 1 bytes rest n (omega arith) all is in
     best_of 18446744073709551616 9223372036854775808 n bytes rest (i64_text n) least (ap i64_text least.is ∙ i64_is least.negative least.number least.below) (λ after.
-        subst (λ (k : ℕ). IsSigned 18446744073709551616 (signed_text least.negative least.number ++ after) k after) (sym least.is) (signed_spells least.negative 9 1 least.number after (omega arith) least.below))
+    subst (λ (k : ℕ). IsSigned 18446744073709551616 (signed_text least.negative least.number ++ after) k after) (sym least.is) (signed_spells least.negative 9 1 least.number after (omega arith) least.below))

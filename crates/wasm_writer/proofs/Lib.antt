@@ -1,8 +1,9 @@
-pub mod Leb
-pub mod Best
-pub mod BestNumbers
-pub mod BestSigned
-pub mod BestParts
-pub mod BestItems
-pub mod BestCode
-pub mod BestModule
+mod Leb
+mod Groups
+mod Best
+mod BestNumbers
+mod BestSigned
+mod BestParts
+mod BestItems
+mod BestCode
+mod BestModule
