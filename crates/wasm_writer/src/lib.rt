@@ -17,3 +17,6 @@ mod types;
 mod vectors;
 
 pub use module::write_module;
+
+#[cfg(test)]
+mod tests;
