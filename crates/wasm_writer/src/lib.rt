@@ -7,6 +7,7 @@
 #![tactic(auto)]
 
 mod bodies;
+pub mod build;
 mod instructions;
 mod module;
 mod numbers;
