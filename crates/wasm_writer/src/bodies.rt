@@ -1,6 +1,6 @@
 //! Code (section 5.5.13).
 
-ghost use Rattle.std.specs.Prelude.{◌≡◌, ◌<◌, ◌++◌, ◌∷◌, [], IfOk, MatchOption, length, flat_map};
+ghost use Rattle.std.specs.Prelude.{◌≡◌, ◌<◌, ◌++◌, ◌∷◌, [], IfOk, IfSome, MatchOption, length, flat_map};
 ghost use Rattle.std.specs.List.{prefix_len};
 ghost use Rattle.wasm_writer.specs.Spelled.{same_type, groups_of, vector_text, group_text, body_text, sized_body_text};
 
@@ -33,7 +33,8 @@ fn count_in_front(kind: ValueType, locals: &[ValueType]) -> usize
 
 // The first group: how many locals, of which type, and the locals after them.
 fn first_group(locals: &[ValueType]) -> Option<(usize, ValueType, &[ValueType])>
-    ensures { MatchOption result (groups_of locals.now ≡ []) (λ g. (groups_of locals.now ≡ (record { count = g.0; kind = g.1 }) ∷ groups_of g.2.now) × (length g.2.now < length locals.now)) }
+    ensures first { MatchOption result (groups_of locals.now ≡ []) (λ g. groups_of locals.now ≡ (record { count = g.0; kind = g.1 }) ∷ groups_of g.2.now) }
+    ensures shorter { IfSome result (λ g. length g.2.now < length locals.now) }
 {
     match locals {
         [] => None,

@@ -10,6 +10,7 @@
 #![tactic(auto)]
 
 mod bodies;
+pub mod build;
 mod instructions;
 mod module;
 mod numbers;
@@ -20,3 +21,6 @@ mod types;
 mod vectors;
 
 pub use module::write_module;
+
+#[cfg(test)]
+mod tests;
