@@ -1,8 +1,10 @@
 //! Modules that are read and written again. The bytes that are wanted are those that wat2wasm of wabt 1.0.32 writes.
 
+use super::build::*;
 use super::*;
 use std::test::Fail;
 use wasm_reader::read_module;
+use wasm_types::{Instr, Items, Module, Value, ValueType};
 
 // Modules and the bytes that are wanted of them, behind the magic and the version.
 const ROWS: [(&str, &str); 7] = [
@@ -67,5 +69,49 @@ fn modules_again(rt: HostRuntime) -> Result<(), Fail> {
             "{sections} gives {found:?}"
         );
     }
+    Ok(())
+}
+
+// A guest that hands two bytes to a function that it imports.
+fn small_guest(rt: &HostRuntime) -> Result<Module, Fail> {
+    let alloc = rt.alloc();
+    let pair = func_type(
+        alloc,
+        &[ValueType::I32, ValueType::I32],
+        Some(ValueType::I32),
+    )?;
+    let types = vec![in alloc; func_type(alloc, &[], None)?, pair]?;
+    let imports = vec![in alloc; import_function(alloc, "env", "write", 1)?]?;
+    let code = vec![in alloc;
+        Instr::Const(Value::I32(16)),
+        Instr::Const(Value::I32(2)),
+        Instr::Call(0),
+        Instr::Drop,
+    ]?;
+    let start = body(alloc, &[ValueType::I64, ValueType::I64], code)?;
+    let functions = vec![in alloc; (0, start)]?;
+    let segments = vec![in alloc; data(alloc, 16, b"hi")?]?;
+    Ok(guest(alloc, types, imports, functions, segments)?)
+}
+
+#[test]
+fn a_guest(rt: HostRuntime) -> Result<(), Fail> {
+    let module = small_guest(&rt)?;
+    let found = write_module(rt.alloc(), &module)?;
+    let wanted = bytes_of(
+        &rt,
+        "01 0a 0260000060027f7f017f 02 0d 0103656e760577726974650001 03 02 0100 05 03 010001 07 13 02 066d656d6f72790200 065f73746172740001 0a 0d 01 0b 01027e 4110 4102 1000 1a 0b 0b 08 01 00 41100b 026869",
+    )?;
+    assert!(rt; found == wanted, "{found:?}");
+    let again = read_module(rt.alloc(), &found).ok().ok_or("a fault")?;
+    assert!(rt; again == module);
+    let run = export_function(rt.alloc(), "run", 1)?;
+    let exports = Items::of(vec![in rt.alloc(); run]?);
+    let found = write_module(rt.alloc(), &Module { exports, ..module })?;
+    let wanted = bytes_of(
+        &rt,
+        "01 0a 0260000060027f7f017f 02 0d 0103656e760577726974650001 03 02 0100 05 03 010001 07 07 01 0372756e0001 0a 0d 01 0b 01027e 4110 4102 1000 1a 0b 0b 08 01 00 41100b 026869",
+    )?;
+    assert!(rt; found == wanted, "{found:?}");
     Ok(())
 }
