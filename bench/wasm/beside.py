@@ -82,4 +82,5 @@ def main():
     print(f"{COUNT} modules, {good} of them valid: all as wasm-validate says")
 
 
-main()
+if __name__ == "__main__":
+    main()

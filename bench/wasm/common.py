@@ -8,7 +8,7 @@ import tempfile
 
 HERE = os.path.dirname(os.path.abspath(__file__))
 ROOT = os.path.dirname(os.path.dirname(HERE))
-CRATES = ("wasm_types", "wasm_code", "wasm_reader", "wasm_validate", "wasm_accept")
+CRATES = ("items", "wasm_types", "wasm_code", "wasm_reader", "wasm_writer", "wasm_validate", "wasm_accept")
 
 
 def build(folder):
@@ -23,10 +23,11 @@ def build(folder):
     os.makedirs(source)
     shutil.copy(os.path.join(HERE, "program.txt"), os.path.join(source, "main.rt"))
     with open(os.path.join(folder, "crates.txt"), "w") as lines:
-        lines.write("wasm_types:\nwasm_code: wasm_types\nwasm_reader: wasm_types wasm_code\n")
+        lines.write("items:\nwasm_types: items\nwasm_code: wasm_types\nwasm_reader: wasm_types wasm_code\n")
+        lines.write("wasm_writer: wasm_types wasm_code wasm_reader\n")
         lines.write("wasm_validate: wasm_types\n")
         lines.write("wasm_accept: wasm_types wasm_code wasm_reader wasm_validate\n")
-        lines.write("wasm_bench: wasm_reader wasm_accept\n")
+        lines.write("wasm_bench: wasm_reader wasm_writer wasm_accept\n")
     subprocess.run(["git", "init", "-q", folder], check=True)
     subprocess.run(
         ["rt", "run", "--jobs", "1"], cwd=os.path.dirname(source), check=True, stdout=subprocess.DEVNULL
@@ -36,6 +37,16 @@ def build(folder):
 
 def packed(modules):
     return b"".join(struct.pack("<I", len(m)) + m for m in modules)
+
+
+def written(output):
+    """The modules that the program wrote, None for each that was not read."""
+    modules, at = [], 0
+    while at < len(output):
+        (length,) = struct.unpack_from("<Q", output, at)
+        modules.append(output[at + 8 : at + 8 + length] if length else None)
+        at += 8 + length
+    return modules
 
 
 def folder():

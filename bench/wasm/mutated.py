@@ -89,4 +89,5 @@ def main():
         print(f"{count:6} {name}")
 
 
-main()
+if __name__ == "__main__":
+    main()

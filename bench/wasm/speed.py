@@ -1,11 +1,11 @@
-"""Prints how long reading, and reading with validating, a module of some 13 MB takes beside wasm-validate of wabt, as a ratio, and the memory."""
+"""Prints how long reading a module of some 13 MB, reading with validating it, and writing it takes, the first two beside wasm-validate of wabt, as a ratio, and the memory."""
 
 import os
 import shutil
 import subprocess
 import time
 
-from common import build, folder, packed, section, unsigned, vector
+from common import build, folder, packed, section, unsigned, vector, written
 
 FUNCTIONS = 50_000
 RUNS = 5
@@ -59,10 +59,17 @@ def main():
             assert line[1] == "ok" and line[3] == "valid", line
             return int(line[0]) / 1e9, int(line[2]) / 1e9
 
+        def writing():
+            run = subprocess.run([program, "write", many], capture_output=True, check=True)
+            time_taken, is_same = run.stderr.decode().split()
+            assert is_same == "true" and written(run.stdout) == [data]
+            return int(time_taken) / 1e9
+
         runs = [ours() for _ in range(RUNS)]
         reading, both = min(run[0] for run in runs), min(run[1] for run in runs)
         print(f"reading: {reading:.3f} s")
         print(f"reading and validating: {both:.3f} s")
+        print(f"writing: {best_of(writing):.3f} s")
         print(f"memory: {most / 1024:.0f} MB")
         validate = shutil.which("wasm-validate")
         if validate is None:

@@ -5,19 +5,21 @@ use Rattle.hex.specs.Hex.{IsBytes}
 use Rattle.cache_types.specs.declared.calls.Field.{Field}
 use Rattle.cache_types.specs.declared.calls.Terms.{Terms}
 use Rattle.cache_types.specs.declared.calls.Writing.{Writing}
+use Rattle.std.proofs.lemmas.Bool.{and_parts}
 use Rattle.std.proofs.lemmas.Option.{same_Some}
 use Rattle.edge_words.specs.Words.{is_word, hex_word}
 use Rattle.edge_words.specs.Reading.{one, both, number_in, number_from_to, hex_in, begins, Avoids, AllFit}
-use Rattle.edge_words.proofs.Numbers.{same_bytes, both_true}
+use Rattle.edge_words.proofs.Numbers.{same_bytes}
 use Rattle.edge_words.proofs.Laws.{IsCodec, IsNumber, IsFromTo, FitBoth, number_codec, number_from_to_codec, hex_codec, one_lawful, both_lawful}
 use Rattle.edge_words.proofs.Before.{IsLawfulBefore, before_all, before_fewer, both_before}
+use Rattle.edge_words.proofs.ChoiceLaws.{chosen}
 use Rattle.call_lines.specs.declared.line.Named.{Named}
 use Rattle.call_lines.specs.declared.line.Naming.{Naming}
 use Rattle.call_lines.specs.declared.line.Naming.TheVariants.{Marked, Plain}
 use Rattle.call_lines.specs.Calls.{heads, terms_words, writing_words, purge_word}
 use Rattle.call_lines.specs.Lines.{named_word, IsReference, IsField, AreTerms, IsWriting, IsPlain}
 use Rattle.call_lines.specs.Reading.{reference_in, heads_in, terms_in, writing_in, bare_in, lookup_in, insert_in, purge_kind_in, purge_in, named_in, tx_insert_in, tx_update_in, write_in, read_in}
-use Rattle.call_lines.proofs.References.{chosen, reference_codec}
+use Rattle.call_lines.proofs.References.{reference_codec}
 use Rattle.call_lines.proofs.TermLaws.{term_prefixes, writing_prefixes, IsBehind, avoid_terms, terms_law, writing_law, heads_law, heads_other}
 
 -- ---- what may stand behind a call
@@ -25,12 +27,12 @@ use Rattle.call_lines.proofs.TermLaws.{term_prefixes, writing_prefixes, IsBehind
 behind_writing : (rest : List (List ℕ)) → IsBehind rest → Avoids writing_prefixes rest
 behind_writing [] after = refl
 behind_writing (word ∷ words) after =
-    let a = both_true (not (begins (codes "age=") word)) _ after in
-    let b = both_true (not (begins (codes "swr=") word)) _ a.1 in
-    let c = both_true (not (begins (codes "sur=") word)) _ b.1 in
-    let d = both_true (not (begins (codes "meta=") word)) _ c.1 in
-    let e = both_true (not (begins (codes "vary=") word)) _ d.1 in
-    let f = both_true (not (begins (codes "len=") word)) _ e.1 in
+    let a = and_parts (not (begins (codes "age=") word)) _ after in
+    let b = and_parts (not (begins (codes "swr=") word)) _ a.1 in
+    let c = and_parts (not (begins (codes "sur=") word)) _ b.1 in
+    let d = and_parts (not (begins (codes "meta=") word)) _ c.1 in
+    let e = and_parts (not (begins (codes "vary=") word)) _ d.1 in
+    let f = and_parts (not (begins (codes "len=") word)) _ e.1 in
     rw (a.0, b.0, c.0, d.0, e.0, f.0) refl
 
 behind_terms : (rest : List (List ℕ)) → IsBehind rest → Avoids term_prefixes rest
@@ -39,12 +41,12 @@ behind_terms rest after = avoid_terms rest (behind_writing rest after)
 behind_heads : (rest : List (List ℕ)) → IsBehind rest → Avoids (codes "h=" ∷ []) rest
 behind_heads [] after = refl
 behind_heads (word ∷ words) after =
-    let a = both_true (not (begins (codes "age=") word)) _ after in
-    let b = both_true (not (begins (codes "swr=") word)) _ a.1 in
-    let c = both_true (not (begins (codes "sur=") word)) _ b.1 in
-    let d = both_true (not (begins (codes "meta=") word)) _ c.1 in
-    let e = both_true (not (begins (codes "vary=") word)) _ d.1 in
-    (both_true (not (begins (codes "len=") word)) _ e.1).1
+    let a = and_parts (not (begins (codes "age=") word)) _ after in
+    let b = and_parts (not (begins (codes "swr=") word)) _ a.1 in
+    let c = and_parts (not (begins (codes "sur=") word)) _ b.1 in
+    let d = and_parts (not (begins (codes "meta=") word)) _ c.1 in
+    let e = and_parts (not (begins (codes "vary=") word)) _ d.1 in
+    (and_parts (not (begins (codes "len=") word)) _ e.1).1
 
 abbrev All : List (List ℕ) → Type 0
 All rest = Unit {0}

@@ -15,10 +15,7 @@ use Rattle.call_lines.specs.declared.line.Line.{Line}
 use Rattle.call_lines.specs.Lines.{number_of, with_name, call_of, line_of_call, plain_words, IsCall, line_words, IsReference, IsForm, IsCallForm}
 use Rattle.call_lines.specs.Reading
 use Rattle.call_lines.proofs.TermLaws.{IsBehind}
-use Rattle.call_lines.proofs.FormLaws.{form_takes, form_again}
-
-abbrev line_with : CacheCall → Named → Line
-line_with call named = record { call = call; named = named }
+use Rattle.call_lines.proofs.FormLaws.{line_with, form_takes, form_again}
 
 number_is : (named : Named) → IsReference Plain named → ref.Number (number_of named) ≡ named
 number_is ref.Nothing fits = absurd fits

@@ -1,8 +1,8 @@
 -- Laws of names and headers.
-use Rattle.std.proofs.Common.{◌≡◌, ◌≤◌, ℕ, Bool, true, false, not, List, [], ◌∷◌, ◌++◌, refl, sym, ◌∙◌, ap, subst, Some, ◌⊎◌, inl, inr, arith}
+use Rattle.std.proofs.Common.{◌≡◌, ◌≤◌, ℕ, Bool, true, false, not, List, [], ◌∷◌, ◌++◌, refl, sym, ◌∙◌, ap, subst, Some, inl, inr, arith}
 use Rattle.std.specs.Prelude.{codes, ◌==◌, ◌||◌}
 use Rattle.std.specs.List.{list_all, list_any, join_with_byte}
-use Rattle.std.proofs.lemmas.Bool.{eqb-true, leb-true, le-leb}
+use Rattle.std.proofs.lemmas.Bool.{and_parts, or_cases, eqb-true, leb-true, le-leb}
 use Rattle.std.proofs.lemmas.List.Folds.{list_all-append}
 use Rattle.std.proofs.lemmas.List.Splits.{join_with_byte-slice_split}
 use Rattle.std.proofs.lemmas.Option.{cond_some, same_Some}
@@ -11,7 +11,7 @@ use Rattle.cache_types.specs.declared.calls.Field.{Field}
 use Rattle.cache_types.specs.Limits.{is_name_byte, has_name_bytes, is_from_to, is_token_mark}
 use Rattle.edge_words.specs.Words.{is_word, is_visible, hex_word}
 use Rattle.edge_words.specs.Reading.{parts_at, hex_in}
-use Rattle.edge_words.proofs.Numbers.{both_true, hex_takes, hex_again, hex_word_word, hex_passes}
+use Rattle.edge_words.proofs.Numbers.{hex_takes, hex_again, hex_word_word, hex_passes}
 use Rattle.edge_words.proofs.Lines.{lacks, parts_here, parts_last}
 use Rattle.edge_words.proofs.Laws.{IsCodec, hex_codec, bind_some, map_some}
 use Rattle.edge_words.proofs.Commas.{IsPart, hex_no_comma}
@@ -26,15 +26,11 @@ other_byte c b none e =
     let with : (t : Bool) → (b == c) ≡ t → not t ≡ true =
     elim [ true ↦ λ same. cc (sym none ∙ sym (ap is_name_byte (eqb-true b c same)) ∙ e) | false ↦ λ _. refl ] in with (b == c) refl
 
-either : (a b : Bool) → (a || b) ≡ true → (a ≡ true) ⊎ (b ≡ true)
-either true b e = inl refl
-either false b e = inr e
-
 visible_among : (marks : List ℕ) (b : ℕ) → list_all is_visible marks ≡ true → list_any (λ mark. mark == b) marks ≡ true → is_visible b ≡ true
 visible_among [] b each e = cc e
 visible_among (mark ∷ marks) b each e =
-    let parts = both_true _ _ each in
-    elim (either (mark == b) (list_any (λ mark. mark == b) marks) e) [
+    let parts = and_parts _ _ each in
+    elim (or_cases (mark == b) (list_any (λ mark. mark == b) marks) e) [
       | inl same ↦ subst (λ n. is_visible n ≡ true) (eqb-true mark b same) parts.0
       | inr others ↦ visible_among marks b parts.1 others
     ]
@@ -42,15 +38,15 @@ visible_among (mark ∷ marks) b each e =
 -- a byte from the first to the second number, the first of them above the space
 visible_from : (least most b : ℕ) → 33 ≤ least → is_from_to least most b ≡ true → is_visible b ≡ true
 visible_from least most b above e =
-    let low = leb-true least b (both_true _ _ e).0 in
+    let low = leb-true least b (and_parts _ _ e).0 in
     le-leb 33 b (omega arith)
 
 lower_visible : (b : ℕ) → is_name_byte b ≡ true → is_visible b ≡ true
 lower_visible b e =
-    elim (either (is_from_to 97 122 b) (is_from_to 48 57 b || is_token_mark b) e) [
+    elim (or_cases (is_from_to 97 122 b) (is_from_to 48 57 b || is_token_mark b) e) [
       | inl letter ↦ visible_from 97 122 b (omega arith) letter
       | inr others ↦
-          elim (either (is_from_to 48 57 b) (is_token_mark b) others) [
+          elim (or_cases (is_from_to 48 57 b) (is_token_mark b) others) [
             | inl digit ↦ visible_from 48 57 b (omega arith) digit
             | inr mark ↦ visible_among (codes "!#$%&'*+-.^_`|~") b refl mark
           ]
@@ -60,11 +56,11 @@ lower_visible b e =
 bytes_pass : (test : ℕ → Bool) (name : List ℕ) → ((b : ℕ) → is_name_byte b ≡ true → test b ≡ true) → has_name_bytes name ≡ true → list_all test name ≡ true
 bytes_pass test [] each e = refl
 bytes_pass test (b ∷ name) each e =
-    let parts = both_true _ _ e in
+    let parts = and_parts _ _ e in
     rw (each b parts.0) (bytes_pass test name each parts.1)
 
 name_passes : (test : ℕ → Bool) (name : List ℕ) → ((b : ℕ) → is_name_byte b ≡ true → test b ≡ true) → IsName name → list_all test name ≡ true
-name_passes test name each fits = bytes_pass test name each (both_true _ _ fits).1
+name_passes test name each fits = bytes_pass test name each (and_parts _ _ fits).1
 
 name_takes : (text name : List ℕ) → name_in text ≡ Some name → (text ≡ name) × IsName name
 name_takes text name e =

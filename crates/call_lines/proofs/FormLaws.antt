@@ -90,7 +90,7 @@ pub form_takes : (naming : Naming) (words : List (List ℕ)) → Takes naming wo
 form_takes naming [] x e = cc e
 form_takes naming (name ∷ words) x e = any_takes naming name words x e
 
-abbrev line_with : CacheCall → Named → Line
+abbrev pub line_with : CacheCall → Named → Line
 line_with call named = record { call = call; named = named }
 
 -- a line that names nothing, and one with 0 in the place of what it names

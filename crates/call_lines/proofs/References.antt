@@ -1,5 +1,5 @@
 -- Laws of what stands for an entry.
-use Rattle.std.proofs.Common.{◌≡◌, ℕ, Bool, true, false, cond, List, [], ◌∷◌, refl, ap, subst, Some, ◌⊎◌, inl, inr}
+use Rattle.std.proofs.Common.{◌≡◌, ℕ, true, List, [], ◌∷◌, ap, subst, Some, inl, inr}
 use Rattle.std.specs.Prelude.{decimal, ◌==◌}
 use Rattle.std.specs.Option.{option_map}
 use Rattle.std.proofs.lemmas.Bool.{eqb-true}
@@ -7,19 +7,13 @@ use Rattle.edge_words.specs.Words.{is_word}
 use Rattle.edge_words.specs.Reading.{number_in}
 use Rattle.edge_words.proofs.Numbers.{number_takes, number_again, number_word}
 use Rattle.edge_words.proofs.Laws.{IsCodec, map_some}
+use Rattle.edge_words.proofs.ChoiceLaws.{chosen}
 use Rattle.call_lines.specs.declared.line.Named.{Named}
 use Rattle.call_lines.specs.declared.line.Named.TheVariants as ref
 use Rattle.call_lines.specs.declared.line.Naming.{Naming}
 use Rattle.call_lines.specs.declared.line.Naming.TheVariants.{Marked, Plain}
 use Rattle.call_lines.specs.Lines.{named_word, IsReference}
 use Rattle.call_lines.specs.Reading.{marked_in, reference_in}
-
--- which way a test went
-pub chosen : {A : Type 0} (b : Bool) (x y z : A) → cond b x y ≡ z → ((b ≡ true) × (x ≡ z)) ⊎ ((b ≡ false) × (y ≡ z))
-chosen true x y z e = inl (refl, e)
-chosen false x y z e = inr (refl, e)
-
--- ---- references
 
 marked : (mark n : ℕ) (digits : List ℕ) (c : ℕ) → (mark == c) ≡ true → digits ≡ decimal n → mark ∷ digits ≡ c ∷ decimal n
 marked mark n digits c same spelled = let e = eqb-true mark c same in cc

@@ -2,12 +2,12 @@
 use Rattle.std.proofs.Common.{◌≡◌, ℕ, true, List, [], ◌∷◌, ◌++◌, refl, sym, ◌∙◌, ap, subst, Option, None, inl, inr, append_assoc}
 use Rattle.std.specs.Prelude.{decimal, codes, not}
 use Rattle.std.specs.List.{list_all}
+use Rattle.std.proofs.lemmas.Bool.{and_parts}
 use Rattle.hex.specs.Hex.{IsBytes}
 use Rattle.cache_types.specs.declared.calls.Field.{Field}
 use Rattle.cache_types.specs.declared.calls.Terms.{Terms}
 use Rattle.edge_words.specs.Words.{is_word, hex_word, listed}
 use Rattle.edge_words.specs.Reading.{one, both, maybe, prefixed, number_in, hex_in, listed_in, begins, Avoids, AllFit}
-use Rattle.edge_words.proofs.Numbers.{both_true}
 use Rattle.edge_words.proofs.Laws.{IsCodec, IsNumber, FitBoth, number_codec, prefixed_codec, one_lawful}
 use Rattle.edge_words.proofs.Before.{IsLawfulBefore, before_all, before_fewer, both_before, mapped_before}
 use Rattle.edge_words.proofs.Options.{IsOption, maybe_before, many_before, prefixed_words}
@@ -37,11 +37,11 @@ IsBehind rest = Avoids option_prefixes rest
 -- fewer prefixes are avoided
 avoid_first : (prefix : List ℕ) (prefixes words : List (List ℕ)) → Avoids (prefix ∷ prefixes) words → Avoids (prefix ∷ []) words
 avoid_first prefix prefixes [] after = refl
-avoid_first prefix prefixes (word ∷ words) after = rw (both_true (not (begins prefix word)) (list_all (λ p. not (begins p word)) prefixes) after).0 refl
+avoid_first prefix prefixes (word ∷ words) after = rw (and_parts (not (begins prefix word)) (list_all (λ p. not (begins p word)) prefixes) after).0 refl
 
 avoid_rest : (prefix : List ℕ) (prefixes words : List (List ℕ)) → Avoids (prefix ∷ prefixes) words → Avoids prefixes words
 avoid_rest prefix prefixes [] after = refl
-avoid_rest prefix prefixes (word ∷ words) after = (both_true (not (begins prefix word)) (list_all (λ p. not (begins p word)) prefixes) after).1
+avoid_rest prefix prefixes (word ∷ words) after = (and_parts (not (begins prefix word)) (list_all (λ p. not (begins p word)) prefixes) after).1
 
 -- What may stand before words that avoid some prefixes.
 abbrev pub Other : List (List ℕ) → List (List ℕ) → Type 0
@@ -215,10 +215,10 @@ Written = FitBoth AreTerms Varied
 pub avoid_terms : (words : List (List ℕ)) → Avoids writing_prefixes words → Avoids term_prefixes words
 avoid_terms [] after = refl
 avoid_terms (word ∷ words) after =
-    let a = both_true (not (begins age word)) _ after in
-    let b = both_true (not (begins swr word)) _ a.1 in
-    let c = both_true (not (begins sur word)) _ b.1 in
-    let d = both_true (not (begins meta word)) _ c.1 in
+    let a = and_parts (not (begins age word)) _ after in
+    let b = and_parts (not (begins swr word)) _ a.1 in
+    let c = and_parts (not (begins sur word)) _ b.1 in
+    let d = and_parts (not (begins meta word)) _ c.1 in
     rw (a.0, b.0, c.0, d.0) refl
 
 written_law : IsLawfulBefore (Avoids writing_prefixes) written_words Written (both terms_in (both rule_in length_in))

@@ -16,5 +16,5 @@ mod words;
 pub use forms::{read_call, read_form};
 pub use limits::{is_kept, is_limited};
 pub use line::{Line, Named, Naming};
-pub use naming::named_call;
+pub use naming::{named_call, with_name};
 pub use words::write_call;

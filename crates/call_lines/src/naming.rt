@@ -48,12 +48,11 @@ fn number_of(named: Named) -> u64
     }
 }
 
-/// The call of a line, with the number that the line names in the place of the entry.
-pub fn named_call(line: Line) -> CacheCall
-    ensures { result ≡ spec.call_of line }
+/// The call with this number in the place of the entry that it names.
+pub fn with_name(name: u64, call: CacheCall) -> CacheCall
+    ensures { result ≡ spec.with_name name call }
 {
-    let name = number_of(line.named);
-    match line.call {
+    match call {
         CacheCall::TxInsert { writing, .. } => CacheCall::TxInsert { tx: name, writing },
         CacheCall::TxUpdate { terms, .. } => CacheCall::TxUpdate { tx: name, terms },
         CacheCall::TxCancel { .. } => CacheCall::TxCancel { tx: name },
@@ -71,4 +70,11 @@ pub fn named_call(line: Line) -> CacheCall
         },
         call => call,
     }
+}
+
+/// The call of a line, with the number that the line names in the place of the entry.
+pub fn named_call(line: Line) -> CacheCall
+    ensures { result ≡ spec.call_of line }
+{
+    with_name(number_of(line.named), line.call)
 }

@@ -1,8 +1,8 @@
 -- The machine takes each run file, whose lines have no line feed in them.
-use Rattle.std.proofs.Common.{◌≡◌, ◌<◌, ◌≤◌, ◌+◌, ℕ, true, List, [], ◌∷◌, ◌++◌, length, refl, sym, ◌∙◌, ap, subst, Option, Some, arith, append_assoc, append-nil, length-append, map, nat_lt}
+use Rattle.std.proofs.Common.{◌≡◌, ◌<◌, ◌≤◌, ◌+◌, ℕ, true, List, [], ◌∷◌, ◌++◌, length, refl, sym, ◌∙◌, ap, subst, Option, Some, arith, append_assoc, append-nil, length-append, map}
 use Rattle.std.specs.Prelude.{codes}
 use Rattle.std.specs.List.{list_all}
-use Rattle.std.proofs.lemmas.Bool.Decides.{nat_tests}
+use Rattle.std.proofs.lemmas.Bool.{lt-ltb}
 use Rattle.std.proofs.lemmas.List.Folds.{list_all-append}
 use Rattle.edge_words.specs.Reading.{◌>>=◌}
 use Rattle.edge_words.proofs.Lines.{lacks}
@@ -13,9 +13,6 @@ use Rattle.edge_journal.specs.Run.{guest_lines, line_text, step_text, run_lines,
 use Rattle.edge_journal.specs.ByLines.{after_all}
 use Rattle.edge_journal.specs.Machine.{Progress, Start, Begun, Block, Steps, Over, after_line, machine}
 use Rattle.edge_journal.proofs.Texts.{line_again, line_feed, no_line, step_again, step_feed, no_step}
-
-lt-test : (a b : ℕ) → a < b → nat_lt a b ≡ true
-lt-test a b lt = grind (arith, nat_tests)
 
 -- ---- the lines of a block
 
@@ -35,7 +32,7 @@ lines_go closed opened (line ∷ more) rest fits =
 -- ---- the blocks
 
 guest_goes : (closed : List (List Line)) (opened : List Line) (lines : List (List ℕ)) → length closed + 1 < 1000 → after_all machine (Block closed opened) (codes "guest" ∷ lines) ≡ after_all machine (Block (closed ++ opened ∷ []) []) lines
-guest_goes closed opened lines room = rw (lt-test (length closed + 1) 1000 room) refl
+guest_goes closed opened lines room = rw (lt-ltb (length closed + 1) 1000 room) refl
 
 guests_go : (closed : List (List Line)) (opened : List Line) (blocks : List (List Line)) (rest : List (List ℕ)) → AreGuests blocks → length closed + 1 + length blocks ≤ 1000 → after_all machine (Block closed opened) (guest_lines blocks ++ (codes "steps" ∷ rest)) ≡ after_all machine (Steps (closed ++ opened ∷ blocks) []) rest
 guests_go closed opened [] rest fits few = refl
@@ -58,7 +55,7 @@ begun_goes (block ∷ blocks) rest fits few =
 
 step_goes : (guests : List (List Line)) (done : List Step) (step : Step) (lines : List (List ℕ)) → length guests ≤ 1000 → length done < 1000000 → IsStepOf (length guests) step → after_all machine (Steps guests done) (step_text step ∷ lines) ≡ after_all machine (Steps guests (done ++ step ∷ [])) lines
 step_goes guests done step lines few room fits =
-    rw (no_step (length guests) step few fits, lt-test (length done) 1000000 room, step_again (length guests) step few fits) refl
+    rw (no_step (length guests) step few fits, lt-ltb (length done) 1000000 room, step_again (length guests) step few fits) refl
 
 steps_go : (guests : List (List Line)) (done steps : List Step) (rest : List (List ℕ)) → length guests ≤ 1000 → length done + length steps ≤ 1000000 → AreStepsOf (length guests) steps → after_all machine (Steps guests done) (map step_text steps ++ rest) ≡ after_all machine (Steps guests (done ++ steps)) rest
 steps_go guests done [] rest few room fits = ap (λ (ss : List Step). after_all machine (Steps guests ss) rest) (sym (append-nil done))

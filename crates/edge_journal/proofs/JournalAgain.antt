@@ -1,8 +1,9 @@
 -- The machine takes each journal, whose lines have no line feed in them.
-use Rattle.std.proofs.Common.{◌≡◌, ◌<◌, ◌^◌, ℕ, true, List, [], ◌∷◌, ◌++◌, length, map, refl, sym, ◌∙◌, ap, subst, Option, None, Some, append_assoc, append-nil, ◌+◌, nat_lt, arith, length-append}
+use Rattle.std.proofs.Common.{◌≡◌, ◌<◌, ◌^◌, ℕ, true, List, [], ◌∷◌, ◌++◌, length, map, refl, sym, ◌∙◌, ap, subst, Option, None, Some, append_assoc, append-nil, ◌+◌, arith, length-append}
 use Rattle.std.specs.Prelude.{codes, decimal, ◌==◌}
 use Rattle.std.specs.Option.{option_map}
 use Rattle.std.specs.List.{flat_map, list_all}
+use Rattle.std.proofs.lemmas.Bool.{lt-ltb}
 use Rattle.std.proofs.lemmas.Bool.Decides.{nat_tests}
 use Rattle.std.proofs.lemmas.List.Folds.{list_all-append}
 use Rattle.cache_types.specs.declared.entries.Entry.{Entry}
@@ -12,7 +13,7 @@ use Rattle.cache_types.specs.declared.outer.Event.TheVariants as event
 use Rattle.cache_types.specs.declared.outer.Done.{Done}
 use Rattle.edge_words.specs.Reading.{AllFit, at_end, words_in, ◌>>=◌}
 use Rattle.edge_words.specs.Choices.{by_name}
-use Rattle.edge_words.proofs.Lines.{lacks, line_lacks_feed}
+use Rattle.edge_words.proofs.Lines.{lacks, line_lacks_feed, words_of_line}
 use Rattle.edge_journal.specs.declared.journals.Journal.{Journal}
 use Rattle.edge_journal.specs.Journal.{entry_words, entry_text, event_text, event_words, outcome_words, guest_text, over_text, done_lines, end_text, rise}
 use Rattle.edge_journal.specs.Readable.{IsEntry, IsEvent, IsDone, IsReadable}
@@ -22,11 +23,8 @@ use Rattle.edge_journal.specs.ByLines.{after_all}
 use Rattle.edge_journal.specs.JournalMachine.{Progress, Start, Entries, Block, Between, Over, entry_more, is_above, after_blocks, after_events, after_line, finished, machine, spell}
 use Rattle.edge_journal.proofs.EntryLaws.{entry_law}
 use Rattle.edge_journal.proofs.EventLaws.{number_law, numbers_law, event_law, outcome_law}
-use Rattle.edge_journal.proofs.LineLaws.{words_of_line, line_words, line_feed, number_no_name}
+use Rattle.edge_journal.proofs.LineLaws.{line_words, line_feed, number_no_name}
 use Rattle.edge_journal.proofs.JournalLaws.{rise_above}
-
-lt-test : (a b : ℕ) → a < b → nat_lt a b ≡ true
-lt-test a b lt = grind (arith, nat_tests)
 
 -- ---- entries
 
@@ -38,7 +36,7 @@ entry_goes history e fits room =
       number_no_name e.number (codes "guest") fits.number refl,
       number_no_name e.number (codes "end") fits.number refl,
       entry_law.again e fits,
-      lt-test (length history) 18446744073709551615 room,
+      lt-ltb (length history) 18446744073709551615 room,
     ) refl
 
 entries_go : (front more : List Entry) (lines : List (List ℕ)) → AllFit IsEntry more → length front + length more < 2 ^ 64 → after_all machine (Entries front) (map entry_text more ++ lines) ≡ after_all machine (Entries (front ++ more)) lines

@@ -2,7 +2,7 @@
 use Rattle.std.proofs.Common.{◌≡◌, ◌<◌, ◌^◌, ℕ, true, nat_lt, List, [], ◌∷◌, ◌++◌, length, map, refl, sym, ◌∙◌, ap, subst, Option, None, Some, ◌⊎◌, inl, inr, append_assoc, append-nil, arith, lit<, length-append, slice_index_or, zero, suc, ◌+◌}
 use Rattle.std.specs.Prelude.{bytes_eq, codes, ◌==◌}
 use Rattle.std.specs.List.{flat_map}
-use Rattle.std.proofs.lemmas.Bool.{eqb-true, ltb-true}
+use Rattle.std.proofs.lemmas.Bool.{and_parts, eqb-true, ltb-true}
 use Rattle.std.proofs.lemmas.Bool.Decides.{nat_tests}
 use Rattle.std.proofs.lemmas.List.{map-append}
 use Rattle.std.proofs.lemmas.List.Concat.{flat_map-append}
@@ -14,7 +14,7 @@ use Rattle.cache_types.specs.declared.outer.Event.{Event}
 use Rattle.cache_types.specs.declared.outer.Done.{Done}
 use Rattle.edge_words.specs.Words.{line_of}
 use Rattle.edge_words.specs.Reading.{AllFit, words_in, ◌>>=◌}
-use Rattle.edge_words.proofs.Numbers.{same_bytes, both_true}
+use Rattle.edge_words.proofs.Numbers.{same_bytes}
 use Rattle.edge_words.proofs.Laws.{bind_some, map_some}
 use Rattle.edge_words.proofs.Lines.{words_takes}
 use Rattle.edge_journal.specs.declared.journals.Journal.{Journal}
@@ -40,13 +40,13 @@ pub rise_more : (guests : List Done) (done : Done) → rise guests ≡ true → 
 rise_more [] done rises above = refl
 rise_more (first ∷ []) done rises above = rw above refl
 rise_more (first ∷ (next ∷ guests)) done rises above =
-    let both = both_true (nat_lt first.index next.index) (rise (next ∷ guests)) rises in
+    let both = and_parts (nat_lt first.index next.index) (rise (next ∷ guests)) rises in
     rw (both.0, rise_more (next ∷ guests) done both.1 above) refl
 
 pub rise_above : (front : List Done) (done : Done) (guests : List Done) → rise (front ++ done ∷ guests) ≡ true → is_above front done.index ≡ true
 rise_above [] done guests rises = refl
-rise_above (first ∷ []) done guests rises = (both_true (nat_lt first.index done.index) (rise (done ∷ guests)) rises).0
-rise_above (first ∷ (next ∷ front)) done guests rises = rise_above (next ∷ front) done guests (both_true (nat_lt first.index next.index) (rise (next ∷ (front ++ done ∷ guests))) rises).1
+rise_above (first ∷ []) done guests rises = (and_parts (nat_lt first.index done.index) (rise (done ∷ guests)) rises).0
+rise_above (first ∷ (next ∷ front)) done guests rises = rise_above (next ∷ front) done guests (and_parts (nat_lt first.index next.index) (rise (next ∷ (front ++ done ∷ guests))) rises).1
 
 done_more : (guests : List Done) (done : Done) → flat_map done_lines (guests ++ done ∷ []) ≡ flat_map done_lines guests ++ done_lines done
 done_more guests done =

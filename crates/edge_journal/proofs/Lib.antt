@@ -1,4 +1,3 @@
-pub mod Told
 pub mod Texts
 pub mod Machines
 pub mod Again

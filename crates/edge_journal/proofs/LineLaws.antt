@@ -1,18 +1,13 @@
 -- Lines of words, read as they are spelled.
-use Rattle.std.proofs.Common.{◌≡◌, ◌<◌, ◌^◌, ℕ, true, false, nat_lt, List, [], ◌∷◌, sym, ◌∙◌, ap, Option, None, Some}
+use Rattle.std.proofs.Common.{◌≡◌, ◌<◌, ◌^◌, ℕ, true, false, nat_lt, List, sym, ◌∙◌, ap, Option, None, Some}
 use Rattle.std.specs.Prelude.{bytes_eq, decimal}
 use Rattle.std.specs.List.{list_all}
-use Rattle.edge_words.specs.Words.{are_words, line_of}
+use Rattle.edge_words.specs.Words.{line_of}
 use Rattle.edge_words.specs.Reading.{at_end, number_in, words_in}
 use Rattle.edge_words.proofs.Numbers.{other_bytes, number_again}
-use Rattle.edge_words.proofs.Lines.{lacks, words_again, words_takes, line_lacks_feed}
+use Rattle.edge_words.proofs.Lines.{lacks, words_of_line, words_takes, line_lacks_feed}
 use Rattle.edge_words.proofs.Laws.{IsWhole}
 use Rattle.edge_words.proofs.ChoiceLaws.{no_digits}
-
--- the words of a line of some visible words are these
-pub words_of_line : (words : List (List ℕ)) → at_end words ≡ None → are_words words ≡ true → words_in (line_of words) ≡ words
-words_of_line [] some visible = cc some
-words_of_line (word ∷ words) some visible = words_again word words visible
 
 -- what a lawful reading takes is the line of what is spelled
 pub line_takes : {X : Type 0} (spell : X → List (List ℕ)) (Fits : X → Type 0) (read : List (List ℕ) → Option X) → IsWhole spell Fits read → (line : List ℕ) (x : X) → read (words_in line) ≡ Some x → (line ≡ line_of (spell x)) × Fits x

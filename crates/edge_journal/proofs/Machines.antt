@@ -12,7 +12,7 @@ use Rattle.edge_journal.specs.declared.run.Step.{Step}
 use Rattle.edge_journal.specs.Run.{guest_lines, block_lines, line_text, step_text, most_steps, IsLineAt, AreLinesFrom, AreGuests, IsStepOf, AreStepsOf}
 use Rattle.edge_journal.specs.Reading.{line_at, step_at}
 use Rattle.edge_journal.specs.Machine.{Progress, Start, Begun, Block, Steps, Over, after_line, after_in_block, after_in_steps, lines_to, IsProgress, AreCounted}
-use Rattle.call_lines.proofs.References.{chosen}
+use Rattle.edge_words.proofs.ChoiceLaws.{chosen}
 use Rattle.edge_journal.proofs.Texts.{line_takes, step_takes}
 
 -- ---- one more

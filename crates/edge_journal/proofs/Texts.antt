@@ -3,10 +3,10 @@ use Rattle.std.proofs.Common.{◌≡◌, ◌≤◌, ℕ, true, false, List, [], 
 use Rattle.std.specs.Prelude.{bytes_eq, codes, decimal}
 use Rattle.std.specs.Option.{option_map}
 use Rattle.std.proofs.lemmas.Option.{cond_some}
-use Rattle.edge_words.specs.Words.{are_words, line_of}
-use Rattle.edge_words.specs.Reading.{one, both, whole, at_end, words_in, number_in, number_from_to}
+use Rattle.edge_words.specs.Words.{line_of}
+use Rattle.edge_words.specs.Reading.{one, both, whole, words_in, number_in, number_from_to}
 use Rattle.edge_words.proofs.Numbers.{other_bytes}
-use Rattle.edge_words.proofs.Lines.{words_again, words_takes, lacks, line_lacks_feed}
+use Rattle.edge_words.proofs.Lines.{words_of_line, words_takes, lacks, line_lacks_feed}
 use Rattle.edge_words.proofs.Laws.{IsWhole, IsNumber, IsFromTo, FitBoth, bind_some, map_some, number_codec, number_from_to_codec, one_lawful, both_lawful, whole_lawful}
 use Rattle.edge_words.proofs.Before.{whole_before}
 use Rattle.call_lines.specs.declared.line.Line.{Line}
@@ -18,11 +18,6 @@ use Rattle.call_lines.proofs.FormLaws.{form_law, form_again}
 use Rattle.edge_journal.specs.declared.run.Step.{Step}
 use Rattle.edge_journal.specs.Run.{line_text, step_words, step_text, IsLineAt, IsStepOf}
 use Rattle.edge_journal.specs.Reading.{line_in, kept_at, line_at, step_of, step_in, step_at}
-
--- the words of a line of some visible words are these
-words_of_line : (words : List (List ℕ)) → at_end words ≡ None → are_words words ≡ true → words_in (line_of words) ≡ words
-words_of_line [] some visible = cc some
-words_of_line (word ∷ words) some visible = words_again word words visible
 
 -- ---- lines of a block
 

@@ -81,9 +81,3 @@ IsProgress Begun = Unit {0}
 IsProgress (Block closed opened) = (length closed + 1 ≤ most_guests) × AreGuests closed × AreLinesFrom 1 opened
 IsProgress (Steps guests steps) = AreCounted guests steps
 IsProgress (Over guests steps) = AreCounted guests steps
-
--- so many guests that a place among them fits a u32
-abbrev pub HasFewGuests : Progress → Type 0
-HasFewGuests (Block closed opened) = length closed + 1 ≤ most_guests
-HasFewGuests (Steps guests steps) = length guests ≤ most_guests
-HasFewGuests _ = Unit {0}

@@ -1,5 +1,5 @@
 -- What the values of a journal are, as their types have them and a journal can tell.
-use Rattle.std.specs.Prelude.{◌≡◌, ◌<◌, ◌^◌, ℕ, true, length, IsTrue}
+use Rattle.std.specs.Prelude.{◌≡◌, ◌<◌, ◌^◌, ℕ, true, List, length, IsTrue}
 use Rattle.hex.specs.Hex.{IsBytes}
 use Rattle.cache_types.specs.declared.entries.Entry.{Entry}
 use Rattle.cache_types.specs.declared.replies.Hit.{Hit}
@@ -17,7 +17,7 @@ use Rattle.cache_types.specs.declared.outer.Done.{Done}
 use Rattle.edge_words.specs.Reading.{AllFit}
 use Rattle.edge_words.specs.Choices.{FitOption}
 use Rattle.call_lines.specs.Lines.{IsCall}
-use Rattle.edge_journal.specs.Journal.{is_reply_to, rise}
+use Rattle.edge_journal.specs.Journal.{is_reply_to, rise, journal_bytes}
 use Rattle.edge_journal.specs.declared.journals.Journal.{Journal}
 
 abbrev pub IsU64 : ℕ → Type 0
@@ -85,3 +85,9 @@ pub record IsReadable (journal : Journal) : Type 0 where
   pub counted : IsU64 (length journal.history)
   pub guests : AllFit IsDone journal.guests
   pub indexes : IsTrue (rise journal.guests)
+
+-- the bytes are the text of some journal
+pub record IsSpelled (bytes : List ℕ) : Type 0 where
+  pub journal : Journal
+  pub readable : IsReadable journal
+  pub spelled : bytes ≡ journal_bytes journal.history journal.guests

@@ -1,7 +1,7 @@
 ghost use Rattle.std.specs.Prelude.{◌≡◌, ◌≤◌, length};
 ghost use Rattle.edge_words.specs.Reading.{Gives};
 ghost use Rattle.edge_journal.specs.Run.{most_guests};
-ghost use Rattle.edge_journal.specs.Machine.{seen, after_line, after_in_block, after_in_steps, HasFewGuests};
+ghost use Rattle.edge_journal.specs.Machine.{seen, after_line, after_in_block, after_in_steps, IsProgress};
 
 use crate::form::{block_line, schedule_step};
 use crate::run::{Lines, Step};
@@ -79,7 +79,7 @@ fn in_steps(guests: Vec<Lines>, mut steps: Vec<Step>, line: &[u8]) -> Result<Sta
 
 /// What the lines said with one more.
 pub fn next_state(alloc: Global, state: State, line: &[u8]) -> Result<State, LineFault>
-    requires { HasFewGuests (seen state) }
+    requires { IsProgress (seen state) }
     ensures { Gives seen result (after_line (seen state) line.now) }
 {
     match state {

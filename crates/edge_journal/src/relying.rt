@@ -1,6 +1,8 @@
-ghost use Rattle.std.specs.Prelude.{◌≡◌, IfOk, IfErr};
+ghost use Rattle.std.specs.Prelude.{◌≡◌, IfOk, IfErr, IsOk};
 ghost use Rattle.edge_journal.specs.declared.run.RunFault.TheVariants.{OutOfMemory};
-ghost use Rattle.edge_journal.specs.Readable.{IsReadable};
+ghost use Rattle.edge_journal.specs.ByLines.{IsReadAs, IsFirstBad};
+ghost use Rattle.edge_journal.specs.Readable.{IsReadable, IsSpelled};
+ghost use Rattle.edge_journal.specs.JournalMachine.{spell};
 
 use crate::journal::journal_text;
 use crate::journal_reader::read_journal;
@@ -27,7 +29,15 @@ pub fn written_and_read(
 
 /// What is read is written again as it stood.
 pub fn read_and_written(alloc: Global, bytes: &[u8]) -> Result<Octets, RunFault>
-    ensures { IfOk result (λ text. text ≡ bytes.now) }
+    // Only a journal is written, as it stood.
+    ensures found { IsOk result → IsSpelled bytes.now }
+    ensures same { IfOk result (λ text. text ≡ bytes.now) }
+
+    // A journal is written, unless memory runs out.
+    ensures only { IsSpelled bytes.now → IsReadAs bytes.now result }
+
+    // The line that is told is the first that can't stand where it stands.
+    ensures line { IfErr result (IsFirstBad IsReadable spell bytes.now) }
 {
     let journal = read_journal(alloc, bytes)?;
     match journal_text(alloc, &journal.history, journal.guests.items()) {

@@ -84,12 +84,12 @@ pub begun-push : (values : List ℕ) (value : ℕ) → IsBegunValues (values ++ 
 begun-push [] value = tt
 begun-push (first ∷ values) value = tt
 
+pub reverse-cons : {A : Type 0} (x : A) (xs : List A) → reverse (x ∷ xs) ≡ reverse xs ++ x ∷ []
+reverse-cons x xs = reverse-append (x ∷ []) xs
+
 pub values-begun : (trace : List Entry) → IsSome-entry trace → IsBegunValues (values_of trace)
 values-begun [] some = some
-values-begun (e ∷ trace) some = subst IsBegunValues (sym (reverse-push (map (λ (f : Entry). value_of f.number f.reply) trace) (value_of e.number e.reply))) (begun-push (values_of trace) (value_of e.number e.reply))
-  where
-    reverse-push : (xs : List ℕ) (x : ℕ) → reverse (x ∷ xs) ≡ reverse xs ++ x ∷ []
-    reverse-push xs x = reverse-append (x ∷ []) xs
+values-begun (e ∷ trace) some = subst IsBegunValues (sym (reverse-cons (value_of e.number e.reply) (map (λ (f : Entry). value_of f.number f.reply) trace))) (begun-push (values_of trace) (value_of e.number e.reply))
 
 pub next-of-begun : (script : List Line) (values : List ℕ) (call : CacheCall) → IsBegunValues values → is_script script ≡ true → next_call script values ≡ Some call → IsLaterCall script values call
 next-of-begun script [] call begun good is = absurd begun

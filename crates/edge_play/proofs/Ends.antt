@@ -4,6 +4,7 @@ use Rattle.std.specs.List.{list_any, list_all}
 use Rattle.std.proofs.Common.{arith, ap, subst, inl, inr, eq-eqb}
 use Rattle.std.proofs.lemmas.List.{reverse-append}
 use Rattle.std.proofs.lemmas.List.Folds.{list_all-append}
+use Rattle.std.proofs.Math.Bool.{or-true}
 use Rattle.std.proofs.lemmas.Bool.{ne_eqb, and_parts, and_from}
 use Rattle.cache_types.specs.declared.entries.Entry.{Entry}
 use Rattle.cache_types.specs.declared.outer.Outcome.{Outcome}
@@ -54,23 +55,17 @@ blocks-differ index (seat ∷ seats) apart =
     and_from (seat.guest == 0 || not (list_any (λ other. other == seat.guest) (guests_of (blocks_from (index + 1) seats)))) (differ (guests_of (blocks_from (index + 1) seats)))
     (elim apart.0 [
       | inl new ↦ let zero_is : (seat.guest == 0) ≡ true = eq-eqb seat.guest 0 new in rw zero_is refl
-      | inr none ↦ let no_other = none-any seat.guest (index + 1) seats none in rw no_other (or-right (seat.guest == 0))
+      | inr none ↦ let no_other = none-any seat.guest (index + 1) seats none in rw no_other (or-true (seat.guest == 0))
     ])
     (blocks-differ (index + 1) seats apart.1)
-  where
-    or-right : (b : Bool) → (b || true) ≡ true
-    or-right = elim [ true ↦ refl | false ↦ refl ]
 
 pub one-any : (guest index : ℕ) (seats : List Seat) → OneIs guest seats → list_any (λ other. other == guest) (guests_of (blocks_from index seats)) ≡ true
 one-any guest index [] one = absurd one
 one-any guest index (seat ∷ seats) one =
     elim one [
       | inl here ↦ let same : (seat.guest == guest) ≡ true = eq-eqb seat.guest guest here in rw same refl
-      | inr there ↦ rw (one-any guest (index + 1) seats there) (or-right (seat.guest == guest))
+      | inr there ↦ rw (one-any guest (index + 1) seats there) (or-true (seat.guest == guest))
     ]
-  where
-    or-right : (b : Bool) → (b || true) ≡ true
-    or-right = elim [ true ↦ refl | false ↦ refl ]
 
 pub blocks-cover : (past : List Entry) (seats : List Seat) → AllSeated past seats → covers (guests_of (blocks_from 1 seats)) past ≡ true
 blocks-cover [] seats seated = refl

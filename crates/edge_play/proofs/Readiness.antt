@@ -1,6 +1,7 @@
 -- Every turn leaves guests that may go on.
-use Rattle.std.specs.Prelude.{◌≡◌, ◌≢◌, ◌⊎◌, ℕ, ◌<◌, ◌≤◌, Bool, true, false, ◌&&◌, List, ◌∷◌, length, slice_set, ◌==◌, refl, IsTrue, Option, None, Some}
+use Rattle.std.specs.Prelude.{◌≡◌, ◌≢◌, ◌⊎◌, ℕ, ◌<◌, ◌≤◌, false, ◌&&◌, List, ◌∷◌, length, slice_set, ◌==◌, refl, IsTrue, Option, None, Some}
 use Rattle.std.proofs.Common.{arith, ap, sym, ◌∙◌, subst, inl, inr}
+use Rattle.std.proofs.Math.Bool.{and-false}
 use Rattle.std.proofs.lemmas.Bool.{ne_eqb, cases_eq, and_from}
 use Rattle.cache_types.specs.declared.entries.Entry.{Entry}
 use Rattle.cache_types.specs.declared.outer.Outcome.{Outcome}
@@ -32,9 +33,6 @@ stand-other past e seat stands apart =
       values = stands.values ∙ ap values_of same;
       state = state seat.outcome stands.state;
     }
-  where
-    and-false : (b : Bool) → (b && false) ≡ false
-    and-false = elim [ true ↦ refl | false ↦ refl ]
 
 -- one more entry of a seat's guest
 pub ready-appended : (world : World) (place : ℕ) (e : Entry) (moved : Seat) → IsReady world → place < length world.seats → IsNext world.past e → moved.guest ≡ e.guest → ((seat_at world.seats place).guest ≢ 0) × ((seat_at world.seats place).guest ≡ e.guest) ⊎ ((seat_at world.seats place).guest ≡ 0) × (length world.past < e.guest) → IsTrue (is_within_limits e.call) → SeatStands (e ∷ world.past) moved → IsReady (record { past = e ∷ world.past; seats = slice_set world.seats place moved })

@@ -1,8 +1,7 @@
 -- What stands of a seat after its turn, and of the world.
-use Rattle.std.specs.Prelude.{◌≡◌, ◌≢◌, ◌⊎◌, ℕ, ◌+◌, ◌<◌, ◌≤◌, Bool, true, false, not, ◌&&◌, List, [], ◌∷◌, ◌++◌, length, map, reverse, slice_get, nat_lt, ◌==◌, refl, if◌then◌else◌, Option, None, Some, option_map}
+use Rattle.std.specs.Prelude.{◌≡◌, ◌≢◌, ◌⊎◌, ℕ, ◌+◌, ◌<◌, ◌≤◌, Bool, true, false, not, ◌&&◌, List, [], ◌∷◌, ◌++◌, length, map, slice_get, nat_lt, ◌==◌, refl, if◌then◌else◌, Option, None, Some, option_map}
 use Rattle.std.proofs.Common.{arith, ap, sym, ◌∙◌, subst, inl, inr, length-append, eq-eqb, eqb-true}
 use Rattle.std.proofs.lemmas.Bool.{ne_eqb, and_parts, not-true, le-ltb}
-use Rattle.std.proofs.lemmas.List.{reverse-append}
 use Rattle.cache_types.specs.declared.calls.CacheCall.{CacheCall}
 use Rattle.cache_types.specs.declared.calls.CacheCall.TheVariants.{Begin, End}
 use Rattle.cache_types.specs.declared.entries.Entry.{Entry}
@@ -18,7 +17,7 @@ use Rattle.edge_play.specs.Schedule.{Seat, seat_with, outcome_after}
 use Rattle.edge_play.specs.Blocks.{own, numbers_of, values_of, Follows, IsCut, IsRun, is_script}
 use Rattle.edge_play.specs.Ready.{IsGoing, IsSeatState, SeatStands}
 use Rattle.edge_play.proofs.Guests.{own-zero, own-fresh, live-stays, live-begun, not-ended, live-named}
-use Rattle.edge_play.proofs.Calls.{script-line, with_name-same}
+use Rattle.edge_play.proofs.Calls.{script-line, with_name-same, reverse-cons}
 
 -- an entry that is answered may follow
 pub caller-guest : (past : List Entry) (guest reading : ℕ) (call : CacheCall) → IsCaller past guest call → IsGuest past (entry_after past guest reading call) call
@@ -39,16 +38,10 @@ pub own-more : (past : List Entry) (e : Entry) → own (e ∷ past) e.guest ≡ 
 own-more past e = let same : (e.guest == e.guest) ≡ true = eq-eqb e.guest e.guest refl in rw same refl
 
 pub numbers_of-more : (e : Entry) (trace : List Entry) → numbers_of (e ∷ trace) ≡ numbers_of trace ++ e.number ∷ []
-numbers_of-more e trace = reverse-cons (map (λ (f : Entry). f.number) trace) e.number
-  where
-    reverse-cons : (xs : List ℕ) (x : ℕ) → reverse (x ∷ xs) ≡ reverse xs ++ x ∷ []
-    reverse-cons xs x = reverse-append (x ∷ []) xs
+numbers_of-more e trace = reverse-cons e.number (map (λ (f : Entry). f.number) trace)
 
 pub values_of-more : (e : Entry) (trace : List Entry) → values_of (e ∷ trace) ≡ values_of trace ++ value_of e.number e.reply ∷ []
-values_of-more e trace = reverse-cons (map (λ (f : Entry). value_of f.number f.reply) trace) (value_of e.number e.reply)
-  where
-    reverse-cons : (xs : List ℕ) (x : ℕ) → reverse (x ∷ xs) ≡ reverse xs ++ x ∷ []
-    reverse-cons xs x = reverse-append (x ∷ []) xs
+values_of-more e trace = reverse-cons (value_of e.number e.reply) (map (λ (f : Entry). value_of f.number f.reply) trace)
 
 -- the guest of a call that may be made had the same entries under its seat's name
 pub own-before : (past : List Entry) (guest : ℕ) (call : CacheCall) → IsLegalPast past → IsCaller past guest call → own past (guest_of past guest call) ≡ own past guest

@@ -2,7 +2,7 @@
 use Rattle.std.specs.Prelude.{◌≡◌, ℕ, ◌+◌, ◌-◌, ◌<◌, Bool, true, false, ◌||◌, nat_le, List, [], ◌∷◌, ◌++◌, length, map, reverse, slice_set, ◌==◌, refl, if◌then◌else◌, Option, None, Some, is_some, unwrap_or}
 use Rattle.std.specs.List.{list_any}
 use Rattle.std.proofs.Common.{arith, ap, sym, ◌∙◌, inl, inr, zero, suc}
-use Rattle.std.proofs.lemmas.Bool.{and_parts, leb-true}
+use Rattle.std.proofs.lemmas.Bool.{and_parts, or_left, or_right, leb-true}
 use Rattle.std.proofs.lemmas.List.{length-set, length-map, reverse-reverse}
 use Rattle.cache_types.specs.declared.calls.CacheCall.TheVariants.{End}
 use Rattle.cache_types.specs.declared.entries.Entry.{Entry}
@@ -133,25 +133,18 @@ any-append (x ∷ xs) ys =
     let with : (b : Bool) → (b || any_short (xs ++ ys)) ≡ ((b || any_short xs) || any_short ys) = elim [ true ↦ refl | false ↦ any-append xs ys ] in
     with (is_short_seat x)
 
-or-true : (a b : Bool) → a ≡ true → (a || b) ≡ true
-or-true a b is = rw is refl
-
-or-last : (a b : Bool) → b ≡ true → (a || b) ≡ true
-or-last true b is = refl
-or-last false b is = is
-
 closed-keeps-over : (past : List Entry) (over seats : List Seat) → any_short over ≡ true → any_short (closed past over seats).seats ≡ true
 closed-keeps-over past over [] short = short
 closed-keeps-over past over (seat ∷ seats) short =
     let seat_over : Seat = (closed_turn past seat).seat in
-    closed-keeps-over (closed_turn past seat).past (over ++ seat_over ∷ []) seats (any-append over (seat_over ∷ []) ∙ or-true (any_short over) (any_short (seat_over ∷ [])) short)
+    closed-keeps-over (closed_turn past seat).past (over ++ seat_over ∷ []) seats (any-append over (seat_over ∷ []) ∙ or_left (any_short over) (any_short (seat_over ∷ [])) short)
 
 closed-keeps : (past : List Entry) (over seats : List Seat) → any_short seats ≡ true → any_short (closed past over seats).seats ≡ true
 closed-keeps past over [] short = cc short
 closed-keeps past over (seat ∷ seats) short =
     let seat_over : Seat = (closed_turn past seat).seat in
     let here : is_short_seat seat ≡ true → any_short (over ++ seat_over ∷ []) ≡ true = λ is.
-    any-append over (seat_over ∷ []) ∙ or-last (any_short over) (any_short (seat_over ∷ [])) (any-first seat_over [] (closed-turn-keeps past seat is))
+    any-append over (seat_over ∷ []) ∙ or_right (any_short over) (any_short (seat_over ∷ [])) (any-first seat_over [] (closed-turn-keeps past seat is))
     in
     let with : (b : Bool) → is_short_seat seat ≡ b → (b || any_short seats) ≡ true → any_short (closed (closed_turn past seat).past (over ++ seat_over ∷ []) seats).seats ≡ true =
     elim [

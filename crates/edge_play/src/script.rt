@@ -1,9 +1,8 @@
 ghost use Rattle.std.specs.Prelude.{◌≡◌, IfOk};
-ghost use Rattle.call_lines.specs.Lines.{with_name};
 ghost use Rattle.edge_play.specs.Script.{is_got_or_made, value_of, name_in, call_of, line_call, next_call};
 
 use cache_types::{CacheCall, Copied, Reply};
-use call_lines::{Line, Named};
+use call_lines::{Line, Named, with_name};
 use edge_journal::Lines;
 use std::alloc::{AllocError, Global};
 
@@ -37,36 +36,6 @@ fn name_in(values: &[u64], named: Named) -> u64
     }
 }
 
-/// The call with this number in the place of the entry that it names.
-fn with_name(alloc: Global, name: u64, call: &CacheCall) -> Result<CacheCall, AllocError>
-    ensures { IfOk result (λ named. named ≡ with_name name call.now) }
-{
-    match call {
-        CacheCall::TxInsert { writing, .. } => Ok(CacheCall::TxInsert {
-            tx: name,
-            writing: writing.copy(alloc)?,
-        }),
-        CacheCall::TxUpdate { terms, .. } => Ok(CacheCall::TxUpdate {
-            tx: name,
-            terms: terms.copy(alloc)?,
-        }),
-        CacheCall::TxCancel { .. } => Ok(CacheCall::TxCancel { tx: name }),
-        CacheCall::Close { .. } => Ok(CacheCall::Close { tx: name }),
-        CacheCall::Write { piece, .. } => Ok(CacheCall::Write {
-            object: name,
-            piece: piece.copy(alloc)?,
-        }),
-        CacheCall::Finish { .. } => Ok(CacheCall::Finish { object: name }),
-        CacheCall::Abandon { .. } => Ok(CacheCall::Abandon { object: name }),
-        CacheCall::Read { place, most, .. } => Ok(CacheCall::Read {
-            hit: name,
-            place: *place,
-            most: *most,
-        }),
-        call => call.copy(alloc),
-    }
-}
-
 /// The call at this place behind the Begin.
 fn line_call(
     alloc: Global,
@@ -79,7 +48,7 @@ fn line_call(
     if place < script.len() {
         let line = &script[place];
         let name = name_in(values, line.named);
-        Ok(Some(with_name(alloc, name, &line.call)?))
+        Ok(Some(with_name(name, line.call.copy(alloc)?)))
     } else if place == script.len() {
         Ok(Some(CacheCall::End))
     } else {

@@ -10,7 +10,7 @@ use Rattle.std.proofs.Math.Seq.{take-append_seam, drop-append_seam}
 use Rattle.edge_words.specs.Words.{is_word, are_words, is_visible}
 use Rattle.edge_words.specs.Reading.{begins, Avoids, mapped, both, whole, at_end}
 use Rattle.edge_words.proofs.Numbers.{same_bytes, bytes_eq_refl}
-use Rattle.edge_words.proofs.Laws.{IsLawful, IsWhole, FitBoth, bind_some, map_some}
+use Rattle.edge_words.proofs.Laws.{IsLawful, IsWhole, FitBoth, bind_some, map_some, end_takes}
 
 -- The first of some words are read as they are spelled, and read again before words that Rest allows.
 pub record IsLawfulBefore {X : Type 0} (Rest : List (List ℕ) → Type 0) (spell : X → List (List ℕ)) (Fits : X → Type 0) (read : List (List ℕ) → Option (X × List (List ℕ))) : Type 0 where
@@ -114,10 +114,6 @@ avoided prefix word words e =
     elim (begins prefix word) as (λ (b : Bool). list_all (λ (q : Bool). not q) (b ∷ []) ≡ true → b ≡ false) [ true ↦ λ e. cc e | false ↦ λ _. refl ] e
 
 -- ---- all words
-
-end_takes : (words : List (List ℕ)) (end : Unit {0}) → at_end words ≡ Some end → words ≡ []
-end_takes [] end e = refl
-end_takes (word ∷ words) end e = cc e
 
 whole_takes : {X : Type 0} (Rest : List (List ℕ) → Type 0) (spell : X → List (List ℕ)) (Fits : X → Type 0) (read : List (List ℕ) → Option (X × List (List ℕ))) → IsLawfulBefore Rest spell Fits read → (words : List (List ℕ)) (x : X) → whole read words ≡ Some x → (words ≡ spell x) × Fits x
 whole_takes {X} Rest spell Fits read law words x e =

@@ -1,6 +1,7 @@
 -- Pieces with commas between them.
 use Rattle.std.proofs.Common.{◌≡◌, ℕ, true, not, List, [], ◌∷◌, ◌++◌, refl, sym, ◌∙◌, ap, subst, Option, Some, append-nil, map}
 use Rattle.std.specs.List.{list_all, flat_map, join_with_byte}
+use Rattle.std.proofs.lemmas.Bool.{and_parts}
 use Rattle.std.proofs.lemmas.List.Folds.{list_all-append}
 use Rattle.std.proofs.lemmas.List.Splits.{join_with_byte-slice_split}
 use Rattle.std.proofs.lemmas.Option.{same_Some}
@@ -9,7 +10,7 @@ use Rattle.std.specs.Prelude.{◌==◌}
 use Rattle.edge_words.specs.Words.{hex_word, is_word, is_visible, after_comma, listed}
 use Rattle.edge_words.specs.Reading.{parts_at, at_end, each, listed_in, AllFit}
 use Rattle.edge_words.proofs.Parts.{words_left}
-use Rattle.edge_words.proofs.Numbers.{both_true, hex_passes}
+use Rattle.edge_words.proofs.Numbers.{hex_passes}
 use Rattle.edge_words.proofs.Lines.{lacks, parts_here, parts_last}
 use Rattle.edge_words.proofs.Laws.{IsCodec, bind_some, map_some}
 
@@ -25,10 +26,10 @@ listed_takes text = sym (listed_join (parts_at 44 text)) ∙ join_with_byte-slic
 
 pub listed_again : (piece : List ℕ) (pieces : List (List ℕ)) → list_all (lacks 44) (piece ∷ pieces) ≡ true → parts_at 44 (listed (piece ∷ pieces)) ≡ piece ∷ pieces
 listed_again piece [] e =
-    let parts = both_true _ _ e in
+    let parts = and_parts _ _ e in
     rw append-nil (parts_last 44 piece parts.0)
 listed_again piece (next ∷ pieces) e =
-    let parts = both_true _ _ e in
+    let parts = and_parts _ _ e in
     parts_here 44 piece (listed (next ∷ pieces)) parts.0 ∙ ap (λ (ps : List (List ℕ)). piece ∷ ps) (listed_again next pieces parts.1)
 
 -- bytes in hexadecimal have none

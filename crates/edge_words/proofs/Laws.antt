@@ -2,7 +2,7 @@
 use Rattle.std.proofs.Common.{◌≡◌, ◌<◌, ◌≤◌, ◌^◌, arith, ℕ, true, List, [], ◌∷◌, ◌++◌, length, drop, refl, sym, ◌∙◌, ap, subst, Option, None, Some, append_assoc, append-nil}
 use Rattle.std.specs.Prelude.{decimal}
 use Rattle.std.specs.Option.{option_map}
-use Rattle.std.proofs.lemmas.Bool.{leb-true, le-leb}
+use Rattle.std.proofs.lemmas.Bool.{and_parts, leb-true, le-leb}
 use Rattle.std.proofs.lemmas.List.{take-append-drop}
 use Rattle.std.proofs.lemmas.List.Folds.{list_all-append}
 use Rattle.std.proofs.Math.Seq.{take-append_seam, drop-append_seam}
@@ -10,7 +10,7 @@ use Rattle.std.proofs.lemmas.Option.{cond_some, same_Some}
 use Rattle.hex.specs.Hex.{IsBytes}
 use Rattle.edge_words.specs.Words.{is_word, are_words, is_visible, hex_word}
 use Rattle.edge_words.specs.Reading.{one, both, whole, at_end, prefixed, without_prefix, number_in, number_from_to, hex_in, ◌>>=◌}
-use Rattle.edge_words.proofs.Numbers.{both_true, same_bytes, bytes_eq_refl, number_takes, number_again, number_word, hex_takes, hex_again, hex_word_word}
+use Rattle.edge_words.proofs.Numbers.{same_bytes, bytes_eq_refl, number_takes, number_again, number_word, hex_takes, hex_again, hex_word_word}
 
 -- the first reading gave a value, which the second got
 pub bind_some : {A B : Type 0} (o : Option A) (f : A → Option B) (y : B) → (o >>= f) ≡ Some y → (x : A) × (o ≡ Some x) × (f x ≡ Some y)
@@ -56,7 +56,7 @@ from_to_takes : (least most : ℕ) (word : List ℕ) (n : ℕ) → number_from_t
 from_to_takes least most word n e =
     let read = bind_some (number_in word) _ n e in
     let found = cond_some _ _ _ read.2 in
-    let tests = both_true _ _ found.0 in
+    let tests = and_parts _ _ found.0 in
     let P : ℕ → Type 0 = λ k. (word ≡ decimal k) × IsFromTo least most k in
     subst P found.1 ((number_takes word read.0 read.1).0, (leb-true _ _ tests.0, leb-true _ _ tests.1))
 
@@ -128,7 +128,7 @@ both_lawful spell Fits read spell' Fits' read' first second = record {
 }
 
 -- all words
-end_takes : (words : List (List ℕ)) (end : Unit {0}) → at_end words ≡ Some end → words ≡ []
+pub end_takes : (words : List (List ℕ)) (end : Unit {0}) → at_end words ≡ Some end → words ≡ []
 end_takes [] end e = refl
 end_takes (word ∷ words) end e = cc e
 

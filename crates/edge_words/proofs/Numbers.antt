@@ -1,9 +1,9 @@
 -- Numbers and bytes, read as they are spelled.
-use Rattle.std.proofs.Common.{◌≡◌, ◌≢◌, ◌<◌, ◌^◌, ◌+◌, ◌*◌, ◌/◌, ◌%◌, ℕ, Bool, true, false, ◌&&◌, cond, suc, List, [], ◌∷◌, length, nat_lt, refl, sym, ◌∙◌, ap, subst, Option, None, Some, Result, Ok, Err, arith, ◌⊎◌, inl, inr}
+use Rattle.std.proofs.Common.{◌≡◌, ◌≢◌, ◌<◌, ◌^◌, ◌+◌, ◌*◌, ◌/◌, ◌%◌, ℕ, Bool, true, false, cond, suc, List, [], ◌∷◌, length, refl, sym, ◌∙◌, ap, subst, Option, None, Some, Result, Ok, Err, arith, ◌⊎◌, inl, inr}
 use Rattle.std.specs.Prelude.{bytes_eq, decimal, codes, slice_index}
 use Rattle.std.specs.Option.{IfSome}
 use Rattle.std.specs.Result.{IfOk}
-use Rattle.std.proofs.lemmas.Bool.{ltb-true}
+use Rattle.std.proofs.lemmas.Bool.{and_parts, ltb-true, lt-ltb}
 use Rattle.std.proofs.lemmas.Bool.Decides.{nat_tests}
 use Rattle.std.proofs.lemmas.Fmt.{decimal_is_IsNumeral, decimal_by_steps}
 use Rattle.std.specs.List.{list_all}
@@ -34,20 +34,13 @@ other_bytes a b ne =
 pub differs : (a b : List ℕ) → false ≡ bytes_eq a b → a ≡ b → ⊥
 differs a b other same = cc (other ∙ (bytes_eq-Decides a b).1 same)
 
-pub both_true : (a b : Bool) → (a && b) ≡ true → (a ≡ true) × (b ≡ true)
-both_true true b e = (refl, e)
-both_true false b e = cc e
-
-lt-ltb : (a b : ℕ) → a < b → nat_lt a b ≡ true
-lt-ltb a b lt = grind (arith, nat_tests)
-
 -- ---- numbers
 
 pub number_takes : (word : List ℕ) (n : ℕ) → number_in word ≡ Some n → (word ≡ decimal n) × (n < 2 ^ 64)
 unfolding number_in
 number_takes word n e =
     let found = cond_some _ _ _ e in
-    let tests = both_true _ _ found.0 in
+    let tests = and_parts _ _ found.0 in
     (subst (λ (k : ℕ). word ≡ decimal k) found.1 (sym (same_bytes _ _ tests.1)), subst (λ (k : ℕ). k < 2 ^ 64) found.1 (ltb-true _ _ tests.0))
 
 pub number_again : (n : ℕ) → n < 2 ^ 64 → number_in (decimal n) ≡ Some n

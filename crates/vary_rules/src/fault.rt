@@ -1,5 +1,6 @@
 ghost use Rattle.std.specs.Prelude.{◌≡◌};
 ghost use Rattle.vary_rules.specs.declared.fault.RuleFault.TheVariants.{OutOfMemory};
+ghost use Rattle.vary_rules.specs.Text.{fault_text};
 
 use std::alloc::{AllocError, AllocFailed};
 
@@ -11,6 +12,19 @@ pub enum RuleFault {
     /// There are more than 32 different names.
     TooMany,
     OutOfMemory,
+}
+
+impl RuleFault {
+    /// What is told of the fault, without a line feed.
+    pub fn text(self) -> &'static str
+        ensures { result.now ≡ fault_text self }
+    {
+        match self {
+            RuleFault::BadName => "rule: bad-name",
+            RuleFault::TooMany => "rule: too-many-names",
+            RuleFault::OutOfMemory => "rule: out-of-memory",
+        }
+    }
 }
 
 impl From<AllocError> for RuleFault {

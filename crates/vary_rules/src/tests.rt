@@ -55,3 +55,16 @@ fn other_texts_are_refused(rt: HostRuntime) -> Result<(), Fail> {
     }
     Ok(())
 }
+
+const TEXTS: [(RuleFault, &str); 3] = [
+    (RuleFault::BadName, "rule: bad-name"),
+    (RuleFault::TooMany, "rule: too-many-names"),
+    (RuleFault::OutOfMemory, "rule: out-of-memory"),
+];
+
+#[test]
+fn faults_have_texts(rt: HostRuntime) {
+    for (fault, text) in TEXTS {
+        assert_eq!(rt; fault.text().as_bytes(), text.as_bytes());
+    }
+}

@@ -12,4 +12,5 @@ pub mod Sized
 pub mod ConstantExpressions
 pub mod Sizing
 pub mod Members
+pub mod Names
 pub mod Truth

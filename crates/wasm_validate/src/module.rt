@@ -21,7 +21,7 @@ fn check_later(alloc: Global, setting: &Setting, first: usize, whole: &Module) -
     requires { first + length whole.now.code ≤ usize.MAX }
     ensures { Tells (λ x. x) result (later_fault setting.now first whole.now) }
 {
-    check_exports(setting, whole.exports.items())?;
+    check_exports(alloc, setting, whole.exports.items())?;
     check_start(setting, whole.start)?;
     check_elements(alloc, setting, whole.elements.items())?;
     check_code(

@@ -6,13 +6,14 @@ ghost use Rattle.wasm_validate.specs.declared.fault.Part.TheVariants as parts;
 ghost use Rattle.wasm_validate.specs.Steps.{Gives};
 ghost use Rattle.wasm_validate.specs.Faults.{Tells};
 ghost use Rattle.wasm_validate.specs.Spaces.{sizes_in};
-ghost use Rattle.wasm_validate.specs.Parts.{imports_at, functions_at, globals_at, exports_at, elements_at, segments_at, import_type, within, sizes, all_present, constant, count_in, unknown, any_named, start, start_at, gives_nothing, all_below, element, segment};
+ghost use Rattle.wasm_validate.specs.Parts.{imports_at, functions_at, globals_at, exports_at, elements_at, segments_at, import_type, within, sizes, all_present, constant, count_in, unknown, start, start_at, gives_nothing, all_below, element, segment};
 
 use crate::constants::constant;
 use crate::fault::{Halt, Part, Stop, ValidKind, fault_in, halt_in};
 use crate::setting::Setting;
 use crate::spaces::size_in;
 use std::alloc::Global;
+use std::collections::BTreeSet;
 use wasm_types::{
     Element, Export, ExportKind, FuncType, GlobalItem, GlobalType, Import, ImportKind, Limits,
     Segment, ValueType,
@@ -146,28 +147,18 @@ fn unknown(kind: ExportKind) -> ValidKind
     }
 }
 
-fn any_named(name: &[u8], exports: &[Export]) -> bool
-    ensures { result ≡ any_named name.now exports.now }
-{
-    for export in exports {
-        if export.name.items() == name {
-            return true;
-        }
-    }
-    false
-}
-
 /// What is exported, and under which names.
 #[tactic(auto, unfolding(crate::specs::Parts::exports_at))]
-pub fn check_exports(setting: &Setting, exports: &[Export]) -> Result<(), Halt>
+pub fn check_exports(alloc: Global, setting: &Setting, exports: &[Export]) -> Result<(), Halt>
     ensures { Tells (λ x. x) result (exports_at setting.now exports.now) }
 {
+    let mut names: BTreeSet<&[u8]> = BTreeSet::new(alloc);
     for (i, export) in exports.iter().enumerate() {
         if count_in(setting, export.kind) <= export.index as usize {
             let kind = unknown(export.kind);
             return Err(Halt::Fault(fault_in(Part::Export, i, kind, 0)));
         }
-        if any_named(export.name.items(), &exports[..i]) {
+        if !names.insert(export.name.items())? {
             return Err(Halt::Fault(fault_in(Part::Export, i, ValidKind::DuplicateExport, 0)));
         }
     }

@@ -1,2 +1,9 @@
-pub mod Leb
-pub mod Groups
+mod Leb
+mod Groups
+mod Best
+mod BestNumbers
+mod BestSigned
+mod BestParts
+mod BestItems
+mod BestCode
+mod BestModule

@@ -1,5 +1,5 @@
 -- What it means that bytes are the shortest that the grammar has for a module.
-use Rattle.std.specs.Prelude.{◌≡◌, ℕ, ◌<◌, ◌≤◌, List, All, length}
+use Rattle.std.specs.Prelude.{ℕ, ◌<◌, ◌≤◌, List, All, length}
 use Rattle.wasm_types.specs.declared.modules.Module.{Module}
 use Rattle.wasm_reader.specs.Grammar.{IsModule}
 

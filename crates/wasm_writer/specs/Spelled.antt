@@ -1,6 +1,6 @@
 -- How each part of a module is written (chapter 5): numbers in their shortest spellings, locals in the fewest groups, no
 -- section that has nothing to say.
-use Rattle.std.specs.Prelude.{ℕ, suc, ◌+◌, Bool, true, false, if◌then◌else◌, Option, Some, None, List, [], ◌∷◌, ◌++◌, length}
+use Rattle.std.specs.Prelude.{ℕ, suc, Bool, true, false, if◌then◌else◌, Option, Some, None, List, [], ◌∷◌, ◌++◌, length}
 use Rattle.std.specs.List.{flat_map}
 use Rattle.std.specs.Option.{option_to_list}
 use Rattle.wasm_types.specs.declared.types.ValueType.{ValueType}

@@ -1,9 +1,12 @@
-//! Writes WebAssembly modules: [`write_module`] gives a module's bytes in the binary format (chapter 5 of the
-//! WebAssembly Core Specification 1.0, in the profile without floating point), part by part as `specs/Spelled.antt`
-//! defines them. Numbers have their shortest spellings (section 5.2.2), locals stand in the fewest groups (section
-//! 5.5.13), a section of no items is left out (section 5.5.2), and there are no custom sections (section 5.5.3).
+//! Writes WebAssembly modules in the binary format (chapter 5 of the WebAssembly Core Specification 1.0, in the profile
+//! without floating point).
 //!
-//! It only fails where memory runs out, and takes no stack for the length of a list.
+//! [`write_module`] promises two things: where any bytes have the module, those that it gives have it, and no bytes that
+//! have it are fewer. So numbers have their shortest spellings (section 5.2.2), locals stand in the fewest groups
+//! (section 5.5.13), and no empty section (section 5.5.2) or custom section (section 5.5.3) stands.
+//! `specs/Spelled.antt` has the bytes part by part.
+//!
+//! It fails only where memory runs out, and takes no stack for the length of a list.
 #![tactic(auto)]
 
 mod bodies;

@@ -2,6 +2,7 @@
 
 ghost use Rattle.std.specs.Prelude.{◌≡◌, ◌++◌, IfOk};
 ghost use Rattle.wasm_writer.specs.Spelled.{module_text};
+ghost use Rattle.wasm_writer.specs.Shortest.{ReadsBack, IsShortest};
 
 use crate::bodies::Bodies;
 use crate::parts::{Elements, Exports, Globals, Imports, Segments};
@@ -34,10 +35,14 @@ fn write_whole(alloc: Global, module: &Module) -> Result<Vec<u8>, AllocError>
     Ok(out)
 }
 
-/// Writes a module. Nothing is checked: what no bytes spell, as a name that isn't UTF-8, gives bytes that no reader
-/// takes.
+/// Writes a module in the fewest bytes. Nothing is checked: of a module that no bytes have, as one with a name that isn't
+/// UTF-8, something is written of which nothing is said.
 pub fn write_module(alloc: Global, module: &Module) -> Result<Vec<u8>, AllocError>
-    ensures { IfOk result (λ bytes. bytes.items ≡ module_text «module».now) }
+    // Where any bytes have the module, these do.
+    ensures reads { IfOk result (λ bytes. ReadsBack «module».now bytes.items) }
+
+    // No bytes that have the module are fewer: each number has its shortest spelling, and no custom section stands.
+    ensures shortest { IfOk result (λ bytes. IsShortest «module».now bytes.items) }
 {
     write_whole(alloc, module)
 }

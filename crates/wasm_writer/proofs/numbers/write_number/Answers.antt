@@ -1,4 +1,4 @@
-use Rattle.std.proofs.Common.{◌≡◌, ◌++◌, ◌∷◌, ◌∙◌, ◌+◌, ◌/◌, ◌%◌, ap, sym}
+use Rattle.std.proofs.Common.{◌+◌, ◌/◌, ◌%◌}
 use Rattle.wasm_writer.specs.Numbers.{number_text}
 use Rattle.wasm_writer.proofs.Leb.{number_last, number_step, goes_on}
 use Rattle.wasm_writer.proofs.numbers.write_number.Goals as goal

@@ -1,4 +1,4 @@
-use Rattle.std.proofs.Common.{◌≡◌, ◌++◌, ◌∷◌, ◌∙◌, ◌+◌, ◌/◌, ◌%◌, ap, sym}
+use Rattle.std.proofs.Common.{◌+◌, ◌/◌, ◌%◌}
 use Rattle.wasm_writer.specs.Numbers.{seven_bits, signed_text}
 use Rattle.wasm_writer.proofs.Leb.{signed_last, signed_step, goes_on}
 use Rattle.wasm_writer.proofs.numbers.write_signed.Goals as goal
