@@ -15,11 +15,11 @@ SEED = int(sys.argv[2]) if len(sys.argv) > 2 else 1
 
 
 def text(path, data):
-    """What wasm2wat makes of a module; it looks at no types and no names."""
+    """What wasm2wat makes of a module, without looking at types and names; None where it refuses, as it does where an
+    element or data segment names another table or memory than 0: later versions put flags in that place."""
     open(path, "wb").write(data)
     run = subprocess.run(["wasm2wat", "--no-check", "--no-debug-names", path], capture_output=True)
-    assert run.returncode == 0, (run.stderr, data.hex())
-    return run.stdout
+    return run.stdout if run.returncode == 0 else None
 
 
 def main():
@@ -47,8 +47,9 @@ def main():
             shorter += len(result) < len(data)
             same += result == data
             if shutil.which("wasm2wat"):
-                assert text(one, result) == text(one, data), (data.hex(), result.hex())
-                compared += 1
+                wanted = text(one, data)
+                assert text(one, result) == wanted, (data.hex(), result.hex())
+                compared += wanted is not None
     print(f"{len(good)} of {len(cases)} modules were read; written, {same} have the same bytes, {shorter} fewer")
     print(f"{compared} compared by their text")
 
