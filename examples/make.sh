@@ -5,9 +5,16 @@
 set -eu
 cd "$(dirname "$0")"
 crate=../crates/example_modules
-# `rt run` proves, builds and runs the program; without a name it answers its usage and the status 2.
-(cd "$crate" && rt run </dev/null >/dev/null 2>&1) || true
-[ -x "$crate/out/example_modules" ] || { echo "make.sh: the program was not built" >&2; exit 1; }
+# `rt run` proves, builds and runs the program, which without a name answers its usage: so that tells that it was built.
+log=$(cd "$crate" && rt run </dev/null 2>&1) || true
+case $log in
+*"usage: example_modules "*) ;;
+*)
+    printf '%s\n' "$log" | tail -n 20 >&2
+    echo "make.sh: the program was not built" >&2
+    exit 1
+    ;;
+esac
 for name in smallest hello; do
     "$crate/out/example_modules" "$name" >"$name.wasm.new"
     mv "$name.wasm.new" "$name.wasm"
