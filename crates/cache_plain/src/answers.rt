@@ -1,3 +1,5 @@
+//! The one reply to a call, after the entries so far.
+
 ghost use Rattle.std.specs.Prelude.{◌≡◌, IfOk};
 ghost use Rattle.cache_types.specs.Entries.{newest_first};
 ghost use Rattle.cache_types.specs.Answer.{finding, lookup_reply, held_reply, free_reply, tx_lookup_reply, is_fresh_finding, made_if, done_if, tx_lookup_answer, own_object, may_update, is_close_of, is_closed, is_own_lookup, may_close, is_under_way, writable, room_of, write_reply, is_short_of, finish_reply, read_reply, answer};
@@ -9,7 +11,9 @@ use crate::look::{is_done, is_lookup, object_of, own_entry};
 use crate::parts::part_of;
 use crate::renewals::hit_at;
 use crate::transactions::{goal_of, is_held, is_own_open};
-use cache_types::{CacheCall, Entry, Fields, Octets, Reply, is_fresh_at, is_usable_at};
+use cache_types::{
+    CacheCall, Entry, Fields, MOST_OBJECT, Octets, Reply, is_fresh_at, is_usable_at,
+};
 use std::alloc::{AllocError, Global};
 
 fn done_if(good: bool) -> Reply
@@ -174,7 +178,7 @@ fn writable(entries: &[Entry], guest: u64, object: u64) -> Option<Insertion<'_>>
 fn room_of(made: &Insertion<'_>) -> u64
     ensures { result ≡ room_of made.now }
 {
-    made.writing.length.unwrap_or(67_108_864)
+    made.writing.length.unwrap_or(MOST_OBJECT)
 }
 
 fn write_reply(entries: &[Entry], guest: u64, object: u64, piece: &Octets) -> Reply
@@ -233,7 +237,7 @@ fn read_reply(
     };
     if u128::from(place) < written_len(entries, object) {
         let bytes = part_of(alloc, entries, object, place, most)?;
-        return Ok(Reply::Bytes(Octets::from_vec(bytes)));
+        return Ok(Reply::Bytes(Octets::from_vec(bytes)?));
     }
     if is_finished(entries, object) {
         Ok(Reply::Ended)

@@ -1,3 +1,5 @@
+//! The bytes that were written on an object, and whether its body is finished or abandoned.
+
 ghost use Rattle.std.specs.Prelude.{◌≡◌, ◌+◌, ◌*◌, ◌^◌, ◌<◌, ◌≤◌, IfOk, length, if◌then◌else◌};
 ghost use Rattle.cache_types.specs.Entries.{newest_first};
 ghost use Rattle.cache_types.specs.Objects.{piece_by, piece_of, written, is_finish_of, is_abandon_of, is_finished, is_made_by, ends_maker, abandons, is_abandoned, is_alive};

@@ -1,3 +1,5 @@
+//! The insertions among the entries.
+
 ghost use Rattle.std.specs.Prelude.{◌≡◌};
 ghost use Rattle.cache_types.specs.Entries.{newest_first};
 ghost use Rattle.cache_types.specs.Objects.{insertion_by, insertion_of, insertion_at};

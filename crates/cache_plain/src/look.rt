@@ -1,3 +1,5 @@
+//! What calls and replies are, and the entry with a number.
+
 ghost use Rattle.std.specs.Prelude.{◌≡◌, option_copied};
 ghost use Rattle.cache_types.specs.Entries.{newest_first, entry_at, own_entry, last_moment, asked_in, asked_at, is_made, is_done, is_short, is_told_to_insert, is_not_yet, is_begin, is_end, is_lookup};
 ghost use Rattle.cache_types.specs.Objects.{hit_of, object_of};

@@ -1,3 +1,5 @@
+//! The cache that keeps its entries in a list.
+
 ghost use Rattle.std.specs.Prelude.{◌≡◌, ◌≤◌, []};
 
 use crate::steps::step_over;

@@ -1,3 +1,5 @@
+//! The last insertion or update of an object, and the purges after it.
+
 ghost use Rattle.std.specs.Prelude.{◌≡◌, not, if◌then◌else◌};
 ghost use Rattle.cache_types.specs.Entries.{newest_first};
 ghost use Rattle.cache_types.specs.Objects.{hit_at, has_key, made_renewal, update_of, renewal_of, last_renewal, has_surrogate, renews, purges, is_softened, is_softened_by, is_purged};

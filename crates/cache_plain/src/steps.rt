@@ -1,3 +1,5 @@
+//! One step: room, moment, reply and the entry that is appended.
+
 ghost use Rattle.std.specs.Prelude.{◌≡◌, ◌+◌, ◌≤◌, ◌||◌, not, [], ◌∷◌, ◌++◌, length, IsTrue, IsOk, IfOk, OnOk, OnErr, vec_capacity};
 ghost use Rattle.cache_types.specs.Entries.{newest_first, is_begin, is_end, is_not_yet};
 ghost use Rattle.cache_types.specs.Legal.{IsNext};
@@ -94,7 +96,7 @@ fn append(entries: &mut Vec<Entry>, live: &mut usize, entry: Entry)
     }
 }
 
-/// The End of a live guest: its room was kept, so it takes no memory and has no refusal.
+/// The End of a live guest: its room was kept, so it has no refusal.
 fn end(entries: &mut Vec<Entry>, live: &mut usize, guest: u64, reading: u64) -> Stepped
     requires kept { IsKept entries.old.items live.old (vec_capacity entries.old) }
     requires may { IsCaller (newest_first entries.old.items) guest CacheCall.End }

@@ -1,3 +1,5 @@
+//! Open transactions, and which goals they hold.
+
 ghost use Rattle.std.specs.Prelude.{◌≡◌, IfOk, []};
 ghost use Rattle.std.specs.List.{cons_option};
 ghost use Rattle.cache_types.specs.Entries.{newest_first};

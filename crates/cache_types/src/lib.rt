@@ -25,7 +25,10 @@ pub use copied::Copied;
 pub use entries::{Entry, History, StepFault, Stepped};
 pub use freshness::{bits_of, is_fresh_at, is_usable_at};
 pub use items::Items;
-pub use limits::{is_cache_key, is_header_name, is_surrogate_key};
+pub use limits::{
+    MOST_KEY, MOST_NAME, MOST_OBJECT, MOST_SURROGATE, is_cache_key, is_header_name,
+    is_surrogate_key,
+};
 pub use octets::{Octets, OctetsList};
 pub use one_cache::OneCache;
 pub use outer::{Done, Event, Numbers, Outcome, OuterCall, OuterReply, Trace, TrapNumber};

@@ -1,3 +1,5 @@
+//! The list of all calls, and the call that an import names.
+
 ghost use Rattle.std.specs.Prelude.{◌≡◌};
 ghost use Rattle.std.specs.List.{find};
 ghost use Rattle.edge_imports.specs.Table.{all_calls, is_named, call_named};

@@ -1,3 +1,5 @@
+//! The calls that a guest may import.
+
 /// A call that a guest may import. The names are those of the modules and calls of the public interface.
 #[derive(Clone, Copy, Debug, PartialEq, Eq)]
 pub enum Hostcall {

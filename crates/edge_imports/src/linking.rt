@@ -1,3 +1,5 @@
+//! A module's imports, start and memory, tested in the order in which faults are told.
+
 ghost use Rattle.std.specs.Prelude.{◌≡◌, IfOk};
 ghost use Rattle.std.specs.Option.{option_map};
 ghost use Rattle.std.specs.List.{list_any, filter_map};

@@ -1,3 +1,5 @@
+//! What a module is linked to, and why it can't be.
+
 use crate::hostcall::Hostcall;
 use wasm_types::Items;
 

@@ -1,3 +1,5 @@
+//! The table of calls: module, name, parameters and result of each.
+
 ghost use Rattle.std.specs.Prelude.{◌≡◌, ◌≤◌};
 ghost use Rattle.edge_imports.specs.Table.{Row, row_of, asks, body, req, resp, dictionary, config, secret, log, cache, purge, wasi};
 

@@ -1,3 +1,5 @@
+//! Imports that are found and refused, with their texts.
+
 use crate::{Hostcall, LinkRefusal, call_named, links_of};
 use std::alloc::AllocError;
 use std::test::Fail;

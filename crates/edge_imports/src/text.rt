@@ -1,3 +1,5 @@
+//! The texts of refusals.
+
 ghost use Rattle.std.specs.Prelude.{◌≡◌, IfOk, string_bytes};
 ghost use Rattle.edge_imports.specs.Text.{refusal_text};
 

@@ -1,3 +1,5 @@
+//! The way of a module from its bytes to its links.
+
 ghost use Rattle.std.specs.Prelude.{◌≡◌, IfOk, IfErr};
 ghost use Rattle.edge_imports.specs.Links.{LinkedModule};
 ghost use Rattle.edge_modules.specs.Loading.{IsLoaded, IsCause, IsAnswered, stop_of, link_stop};

@@ -1,3 +1,5 @@
+//! The texts of faults, and the line that tells what a module is.
+
 ghost use Rattle.std.specs.Prelude.{◌≡◌, IfOk, string_bytes};
 ghost use Rattle.edge_modules.specs.Text.{kind_name, read_text, fault_text, pages_of, module_line};
 

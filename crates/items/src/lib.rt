@@ -4,6 +4,7 @@
 ghost use Rattle.std.specs.Prelude.{◌≡◌};
 
 use std::marker::Model;
+use std::ops::DerefSlice;
 
 /// A list inside a public value. Contracts see the list of its items.
 #[derive(Debug, Drop, Clone)]
@@ -32,6 +33,17 @@ impl<T> Items<T> {
         ensures { result.now ≡ self.now }
     {
         self.items.as_slice()
+    }
+}
+
+/// A list may be used as the slice of its items: indexed, iterated, searched.
+impl<T> DerefSlice for Items<T> {
+    type Elem = T;
+
+    ghost deref_gives = { λ list items. items ≡ list };
+
+    fn deref(&self) -> &[T] {
+        self.items()
     }
 }
 

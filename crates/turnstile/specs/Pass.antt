@@ -81,7 +81,7 @@ new_pass pass parts = record pass { mine = []; lost = 0; idle = 0; parts = parts
 abbrev pub both_passes : {T E : Type 0} → PassView T E → PassView T E → PassView T E
 both_passes one other = record one { seen = longer one.seen other.seen; mine = merged one.mine other.mine; lost = one.lost + other.lost; idle = one.idle + other.idle; parts = one.parts + other.parts }
 
--- The pass has seen the list that stands now, as many entries behind the first list as one load of the count read.
+-- The pass has seen a list that begins with what it had seen, some number of entries behind the first list.
 pub record HasLearned {T E : Type 0} (base : List E) (before after : PassView T E) : Type 0 where
   pub list : List E
   pub count : ℕ

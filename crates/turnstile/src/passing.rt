@@ -1,4 +1,4 @@
-// Seats are cut in two, and put together.
+//! Seats are cut in two, and put together.
 ghost use Rattle.std.specs.Prelude.{◌≡◌, ℕ, ◌+◌, ◌-◌, ◌<◌, ◌≤◌, List, [], length};
 ghost use mathlib.Core.List.{IsPrefix};
 ghost use Rattle.turnstile.specs.Standing.{Fits};

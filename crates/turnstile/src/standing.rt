@@ -1,4 +1,4 @@
-// The values that a turnstile can keep.
+//! The values that a turnstile can keep.
 ghost use Rattle.std.specs.Prelude.{◌≡◌, ℕ, ◌+◌, ◌<◌, ◌^◌, List, Option, length};
 ghost use Rattle.turnstile.specs.Standing.{family_entries, Adds};
 

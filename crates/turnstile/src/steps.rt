@@ -1,4 +1,4 @@
-// One turn, step by step: it is claimed, the value is taken out and put back, the entry is counted, and the turn is given back.
+//! One turn, step by step: it is claimed, the value is taken out and put back, the entry is counted, and the turn is given back.
 ghost use Rattle.std.specs.Prelude.{◌≡◌, ℕ, ◌+◌, ◌<◌, List, [], ◌∷◌, length, MatchBool, Some, None, Option};
 ghost use Rattle.turnstile.specs.Standing.{Fits, MayJoin, family_entries};
 ghost use Rattle.turnstile.specs.Plays.{Won, Lost, Shares, IsReady, IsDone, IsEnded, HasServed};

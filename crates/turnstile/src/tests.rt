@@ -1,4 +1,4 @@
-// Numbers that callers add, from one thread and from several.
+//! Numbers that callers add, from one thread and from several.
 ghost use Rattle.std.specs.Prelude.{◌≡◌, ℕ, ◌+◌, ◌∷◌, [], length, IfOk, IfErr, IfSome, MatchOption, None, Some};
 ghost use Rattle.std.specs.Prelude.{◌<◌, ◌≤◌, MatchBool};
 ghost use Rattle.std.specs.Thread.{IsSync};

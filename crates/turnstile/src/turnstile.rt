@@ -1,4 +1,4 @@
-// The turnstile and its passes.
+//! The turnstile and its passes.
 ghost use Rattle.std.specs.Prelude.{◌≡◌, ◌≢◌, ℕ, ◌+◌, ◌-◌, ◌<◌, ◌≤◌, List, [], ◌∷◌, ◌++◌, map, length, All, IfOk, IfErr, Some, Option};
 ghost use mathlib.Core.List.{IsPrefix};
 ghost use Rattle.turnstile.specs.Standing.{MayJoin, family_entries};
@@ -170,7 +170,8 @@ impl<T: Standing> Turnstile<T> {
         Pass { seat }
     }
 
-    /// Reads the count, and has seen all that stands.
+    /// Reads the count, and has seen what was published then. The clauses say that nothing that was seen is forgotten, not
+    /// how much is learned.
     pub fn learn(&self, pass: Pass<T>) -> Pass<T>
         requires own { IsOf self.now pass }
         ensures learned { HasLearned (T.entries self.now.start) pass result }

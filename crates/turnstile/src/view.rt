@@ -1,4 +1,4 @@
-// What a seat at the turnstile's table knows, the table's rule, and what each step tells.
+//! What a seat at the turnstile's table knows, the table's rule, and what each step tells.
 use crate::standing::Standing;
 use atomic_table::{Join, Play, Seat, Shared, Split, TableRule};
 use std::collections::LinkedList;

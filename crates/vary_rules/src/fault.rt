@@ -1,3 +1,5 @@
+//! Why a text names no rule.
+
 ghost use Rattle.std.specs.Prelude.{◌≡◌};
 ghost use Rattle.vary_rules.specs.declared.fault.RuleFault.TheVariants.{OutOfMemory};
 ghost use Rattle.vary_rules.specs.Text.{fault_text};

@@ -1,3 +1,5 @@
+//! The names in a text, in lower case.
+
 ghost use Rattle.std.specs.Prelude.{◌≡◌, ◌<◌, ◌∷◌, [], length, IfOk, IfSome, MatchOption, position};
 ghost use Rattle.std.specs.List.{slice_split};
 ghost use Rattle.vary_rules.specs.Rules as spec;
@@ -44,7 +46,7 @@ fn lowered(alloc: Global, word: &[u8]) -> Result<Octets, AllocError>
     ensures { IfOk result (λ name. name ≡ spec.lowered word.now) }
 {
     let bytes: Vec<u8> = word.iter().map(|byte| lower(*byte)).collect(alloc)?;
-    Ok(Octets::from_vec(bytes))
+    Octets::from_vec(bytes)
 }
 
 /// These names, and that of the word; no word has none.

@@ -1,3 +1,5 @@
+//! The rule that a text names.
+
 ghost use Rattle.std.specs.Prelude.{◌≡◌, ◌++◌, filter, IfOk, List, ℕ};
 ghost use Rattle.vary_rules.specs.Rules as spec;
 

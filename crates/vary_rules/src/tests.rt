@@ -1,3 +1,5 @@
+//! Texts with the rules that they name, or their faults; variants.
+
 use super::*;
 use cache_types::Rule;
 use std::alloc::AllocError;

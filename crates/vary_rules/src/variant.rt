@@ -1,3 +1,5 @@
+//! The variant of a rule for the headers of a request.
+
 ghost use Rattle.std.specs.Prelude.{◌≡◌, IfOk};
 ghost use Rattle.cache_types.specs.Slots.{values_of, variant_of};
 

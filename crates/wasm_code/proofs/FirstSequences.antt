@@ -4,6 +4,7 @@ use Rattle.wasm_code.specs.declared.fault.ReadKind.{ReadKind}
 use Rattle.wasm_code.specs.declared.fault.ReadFault.{ReadFault}
 use Rattle.wasm_code.specs.declared.scope.Scope.{Scope}
 use Rattle.wasm_code.specs.Reading.{Reading, ◌>>=◌, fault_at, short_of}
+pub use Rattle.basics.proofs.Results.{bind_err}
 use Rattle.wasm_code.proofs.Steps.{bind_ok, pair_is, same_ok}
 use Rattle.wasm_code.specs.FirstFault.{IsNotMended, IsFirst, TellsFirst}
 
@@ -18,13 +19,6 @@ IsLocal {A} read = (scope : Scope) (bytes rest : List ℕ) (x : A) → read scop
 pub record Reads {A : Type 0} (read : Scope → List ℕ → Reading A) : Type 0 where
   pub takes : IsLocal read
   pub tells : TellsFirst read
-
-pub bind_err : {A B : Type 0} (r : Result A ReadFault) (f : A → Result B ReadFault) (e : ReadFault) → (r >>= f) ≡ Err e → (r ≡ Err e) ⊎ ((x : A) × (r ≡ Ok x) × (f x ≡ Err e))
-bind_err (Ok x) f e h = inr (x, refl, h)
-bind_err (Err d) f e h = inl (let same : d ≡ e = err_is d e h in ap (λ (z : ReadFault). Err z) same)
-  where
-    err_is : {T : Type 0} (d e : ReadFault) → (let r : Result T ReadFault = Err d in r) ≡ Err e → d ≡ e
-    err_is d e h = cc
 
 -- ---- one reading behind another
 

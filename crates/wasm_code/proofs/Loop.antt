@@ -1,8 +1,9 @@
 -- Reading items one after the other, as a loop does.
+use Rattle.wasm_code.specs.declared.fault.ReadFault.{ReadFault}
 use Rattle.std.proofs.Common.{◌≡◌, ℕ, suc, Bool, true, false, ◌-◌, ◌+◌, ◌≤◌, ◌<◌, List, [], ◌∷◌, ◌++◌, Ok, Err, refl, sym, ap, ◌∙◌, append_assoc, arith}
 use Rattle.std.proofs.lemmas.List.{append-nil}
-use Rattle.wasm_code.specs.declared.fault.Stop.{Stop}
-use Rattle.wasm_code.specs.declared.fault.Stop.TheVariants as stops
+use Rattle.basics.specs.declared.stop.Stop.{Stop}
+use Rattle.basics.specs.declared.stop.Stop.TheVariants as stops
 use Rattle.wasm_types.specs.declared.instructions.Instr.{Instr}
 use Rattle.wasm_types.specs.Nested.{role_of}
 use Rattle.wasm_code.specs.declared.scope.Scope.{Scope}
@@ -25,7 +26,7 @@ goes_on item_at front count i bytes n after total lt h so_far =
     let one : with_front front (many_at item_at (count - i) bytes) ≡ with_front (front ++ n ∷ []) (many_at item_at (count - (i + 1)) after) = rw (k, h) (regroup front n (many_at item_at (count - (i + 1)) after)) in
     sym one ∙ so_far
 
-pub ends : {A : Type 0} (item_at : List ℕ → Reading A) (e : Stop) (front : List A) (count i : ℕ) (bytes : List ℕ) (total : Reading (List A)) → i < count → Fails e (item_at bytes)
+pub ends : {A : Type 0} (item_at : List ℕ → Reading A) (e : Stop ReadFault) (front : List A) (count i : ℕ) (bytes : List ℕ) (total : Reading (List A)) → i < count → Fails e (item_at bytes)
     → with_front front (many_at item_at (count - i) bytes) ≡ total → Fails e total
 unfolding many_at
 ends item_at stops.Memory front count i bytes total lt h so_far = tt
@@ -53,7 +54,7 @@ pub last_turn : (most : ℕ) (opens : List Bool) (scope : Scope) (front : List I
 unfolding instrs_at
 last_turn most opens scope front bytes after i read last = rw (read, last) refl
 
-pub no_turn : (most : ℕ) (opens : List Bool) (scope : Scope) (front : List Instr) (bytes : List ℕ) (e : Stop) (total : Reading (List Instr)) → Fails e (instr_at opens scope bytes)
+pub no_turn : (most : ℕ) (opens : List Bool) (scope : Scope) (front : List Instr) (bytes : List ℕ) (e : Stop ReadFault) (total : Reading (List Instr)) → Fails e (instr_at opens scope bytes)
     → with_front front (instrs_at (suc most) opens scope bytes) ≡ total → Fails e total
 unfolding instrs_at
 no_turn most opens scope front bytes stops.Memory total read so_far = tt

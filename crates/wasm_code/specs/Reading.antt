@@ -4,19 +4,15 @@ use Rattle.std.specs.Prelude.{◌≡◌, ◌⊎◌, ℕ, zero, suc, ◌+◌, ◌
 use Rattle.wasm_code.specs.declared.fault.ReadKind.{ReadKind}
 use Rattle.wasm_code.specs.declared.fault.ReadKind.TheVariants.{BadLeb, TooLarge, OutOfMemory}
 use Rattle.wasm_code.specs.declared.fault.ReadFault.{ReadFault}
-use Rattle.wasm_code.specs.declared.fault.Stop.{Stop}
-use Rattle.wasm_code.specs.declared.fault.Stop.TheVariants as stops
+use Rattle.basics.specs.declared.stop.Stop.{Stop}
+use Rattle.basics.specs.declared.stop.Stop.TheVariants as stops
+pub use Rattle.basics.specs.Stops.{◌>>=◌, Gives, Fails}
 use Rattle.wasm_code.specs.declared.scope.Scope.{Scope}
 use Rattle.wasm_code.specs.Grammar as grammar
 
 -- a value and the bytes after it, or the first fault
 abbrev pub Reading : Type 0 → Type 0
 Reading A = Result (A × List ℕ) ReadFault
-
-infixl 10 ◌>>=◌
-abbrev pub ◌>>=◌ : {A B : Type 0} → Result A ReadFault → (A → Result B ReadFault) → Result B ReadFault
-(Ok x) >>= f = f x
-(Err e) >>= f = Err e
 
 -- a fault where these bytes begin; a place too great to tell is told as the greatest
 abbrev pub fault_at : ReadKind → Scope → List ℕ → ReadFault
@@ -26,19 +22,10 @@ fault_at kind scope bytes = record { kind = kind; place = min (scope.end - lengt
 abbrev pub short_of : Scope → ReadFault
 short_of scope = record { kind = scope.short; place = min scope.end 4294967295 }
 
--- What a function returned, seen by view, is what reading gives, unless memory ran out.
-abbrev pub Fails : {Y : Type 0} → Stop → Result Y ReadFault → Type 0
-Fails stops.Memory read = Unit {0}
-Fails (stops.Fault fault) read = read ≡ Err fault
-
-abbrev pub Gives : {X Y : Type 0} → (X → Y) → Result X Stop → Result Y ReadFault → Type 0
-Gives view (Ok x) read = read ≡ Ok (view x)
-Gives view (Err e) read = Fails e read
-
 abbrev pub no_memory : ReadFault
 no_memory = record { kind = OutOfMemory; place = 0 }
 
-abbrev pub told_of : Stop → ReadFault
+abbrev pub told_of : Stop ReadFault → ReadFault
 told_of stops.Memory = no_memory
 told_of (stops.Fault fault) = fault
 

@@ -1,10 +1,8 @@
 //! Why bytes could not be read.
 
 ghost use Rattle.std.specs.Prelude.{◌≡◌};
-ghost use Rattle.wasm_code.specs.declared.fault.Stop.TheVariants.{Memory};
 ghost use Rattle.wasm_code.specs.Reading.{told_of};
 
-use std::alloc::{AllocError, AllocFailed};
 
 /// What is wrong at a place. `OutOfMemory` says nothing of the bytes.
 #[derive(Clone, Copy, Debug, PartialEq, Eq)]
@@ -41,28 +39,8 @@ pub struct ReadFault {
     pub place: u32,
 }
 
-/// Why reading stopped: there was no memory, or the bytes have a fault.
-#[derive(Clone, Copy, Debug, PartialEq, Eq)]
-pub enum Stop {
-    Memory,
-    Fault(ReadFault),
-}
-
-impl From<AllocError> for Stop {
-    ghost from_gives = { λ _ e. e ≡ Memory };
-
-    fn from(_e: AllocError) -> Stop {
-        Stop::Memory
-    }
-}
-
-impl<T: Drop> From<AllocFailed<T>> for Stop {
-    ghost from_gives = { λ _ e. e ≡ Memory };
-
-    fn from(_e: AllocFailed<T>) -> Stop {
-        Stop::Memory
-    }
-}
+/// Why reading stopped.
+pub type Stop = basics::Stop<ReadFault>;
 
 /// The fault that is told of a stop. Want of memory stands at place 0.
 pub fn told_of(stop: Stop) -> ReadFault

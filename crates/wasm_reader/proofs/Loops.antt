@@ -4,8 +4,8 @@ use Rattle.wasm_types.specs.declared.types.ValueType.{ValueType}
 use Rattle.wasm_types.specs.declared.types.FuncType.{FuncType}
 use Rattle.wasm_types.specs.declared.modules.Code.{Code}
 use Rattle.wasm_code.specs.declared.fault.ReadFault.{ReadFault}
-use Rattle.wasm_code.specs.declared.fault.Stop.{Stop}
-use Rattle.wasm_code.specs.declared.fault.Stop.TheVariants as stops
+use Rattle.basics.specs.declared.stop.Stop.{Stop}
+use Rattle.basics.specs.declared.stop.Stop.TheVariants as stops
 use Rattle.wasm_code.specs.declared.scope.Scope.{Scope}
 use Rattle.wasm_code.specs.Reading.{Reading, Fails, count_at}
 use Rattle.wasm_code.specs.Instructions.{value_type_at}
@@ -23,7 +23,7 @@ pub customs_stop : (most : ℕ) (scope : Scope) (bytes : List ℕ) → next_cust
 unfolding customs_from
 customs_stop most scope bytes e = rw e refl
 
-pub customs_fail : (most : ℕ) (scope : Scope) (bytes : List ℕ) (e : Stop) (total : Result (List ℕ) ReadFault) → Fails e (next_custom_at scope bytes) → customs_from (suc most) scope bytes ≡ total → Fails e total
+pub customs_fail : (most : ℕ) (scope : Scope) (bytes : List ℕ) (e : Stop ReadFault) (total : Result (List ℕ) ReadFault) → Fails e (next_custom_at scope bytes) → customs_from (suc most) scope bytes ≡ total → Fails e total
 unfolding customs_from
 customs_fail most scope bytes stops.Memory total read so_far = tt
 customs_fail most scope bytes (stops.Fault f) total read so_far =
@@ -41,14 +41,14 @@ pub locals_go : (params most count : ℕ) (before : List ValueType) (scope : Sco
 unfolding locals_from
 locals_go params most count before scope bytes mid after kind c k = rw (c, k) refl
 
-pub locals_no_count : (params most : ℕ) (before : List ValueType) (scope : Scope) (bytes : List ℕ) (e : Stop) (total : Reading (List ValueType)) → Fails e (count_at (4096 - (params + length before)) scope bytes) → locals_from params before (suc most) scope bytes ≡ total → Fails e total
+pub locals_no_count : (params most : ℕ) (before : List ValueType) (scope : Scope) (bytes : List ℕ) (e : Stop ReadFault) (total : Reading (List ValueType)) → Fails e (count_at (4096 - (params + length before)) scope bytes) → locals_from params before (suc most) scope bytes ≡ total → Fails e total
 unfolding locals_from
 locals_no_count params most before scope bytes stops.Memory total read so_far = tt
 locals_no_count params most before scope bytes (stops.Fault f) total read so_far =
     let one : locals_from params before (suc most) scope bytes ≡ Err f = rw read refl in
     sym so_far ∙ one
 
-pub locals_no_kind : (params most count : ℕ) (before : List ValueType) (scope : Scope) (bytes mid : List ℕ) (e : Stop) (total : Reading (List ValueType)) → count_at (4096 - (params + length before)) scope bytes ≡ Ok (count, mid) → Fails e (value_type_at scope mid) → locals_from params before (suc most) scope bytes ≡ total → Fails e total
+pub locals_no_kind : (params most count : ℕ) (before : List ValueType) (scope : Scope) (bytes mid : List ℕ) (e : Stop ReadFault) (total : Reading (List ValueType)) → count_at (4096 - (params + length before)) scope bytes ≡ Ok (count, mid) → Fails e (value_type_at scope mid) → locals_from params before (suc most) scope bytes ≡ total → Fails e total
 unfolding locals_from
 locals_no_kind params most count before scope bytes mid stops.Memory total c read so_far = tt
 locals_no_kind params most count before scope bytes mid (stops.Fault f) total c read so_far =
@@ -66,7 +66,7 @@ pub bodies_go : (types : List FuncType) (functions : List ℕ) (index most : ℕ
 unfolding bodies_at
 bodies_go types functions index most scope front bytes after body e = rw e (regroup front body (bodies_at types functions (suc index) most scope after))
 
-pub bodies_fail : (types : List FuncType) (functions : List ℕ) (index most : ℕ) (scope : Scope) (front : List Code) (bytes : List ℕ) (e : Stop) (total : Reading (List Code)) → Fails e (sized_at (body_at (params_of types functions index)) scope bytes)
+pub bodies_fail : (types : List FuncType) (functions : List ℕ) (index most : ℕ) (scope : Scope) (front : List Code) (bytes : List ℕ) (e : Stop ReadFault) (total : Reading (List Code)) → Fails e (sized_at (body_at (params_of types functions index)) scope bytes)
     → with_front front (bodies_at types functions index (suc most) scope bytes) ≡ total → Fails e total
 unfolding bodies_at
 bodies_fail types functions index most scope front bytes stops.Memory total read so_far = tt

@@ -1,21 +1,8 @@
 -- What a step that found no fault has given, and how steps follow each other.
-use Rattle.std.proofs.Common.{◌≡◌, ℕ, Bool, true, false, cond, Option, Some, None, Result, Ok, Err, refl, ap}
+use Rattle.std.proofs.Common.{◌≡◌, ℕ, Option, Some, None, Result, Ok, Err, refl, ap}
 use Rattle.wasm_validate.specs.declared.fault.ValidKind.{ValidKind}
 use Rattle.wasm_validate.specs.Steps.{◌>>=◌, unless, told}
-
-pub bind_ok : {A B E : Type 0} (r : Result A E) (f : A → Result B E) (y : B) → (r >>= f) ≡ Ok y → (x : A) × (r ≡ Ok x) × (f x ≡ Ok y)
-bind_ok (Ok x) f y e = (x, refl, e)
-bind_ok (Err d) f y e = absurd cc
-
--- a test that must hold
-pub needs_ok : {A E : Type 0} (b : Bool) (d : E) (r : Result A E) (y : A) → cond b r (Err d) ≡ Ok y → (b ≡ true) × (r ≡ Ok y)
-needs_ok true d r y e = (refl, e)
-needs_ok false d r y e = absurd cc
-
--- a test that must not hold
-pub guard_ok : {A E : Type 0} (b : Bool) (d : E) (r : Result A E) (y : A) → cond b (Err d) r ≡ Ok y → (b ≡ false) × (r ≡ Ok y)
-guard_ok true d r y e = absurd cc
-guard_ok false d r y e = (refl, e)
+pub use Rattle.basics.proofs.Results.{bind_ok, needs_ok, guard_ok, same_after}
 
 abbrev pub done : {A E : Type 0} → A → Result A E
 done x = Ok x
@@ -37,10 +24,6 @@ pub stepped : {A B Y Z : Type 0} (n : ℕ) (r : Result A ValidKind) (g : A → B
     → (told n (r >>= λ x. Ok (g x)) >>= k) ≡ ((told n r >>= w) >>= fin)
 stepped n (Ok x) g k w fin h = h x
 stepped n (Err d) g k w fin h = refl
-
-pub same_after : {X Z E : Type 0} (r : Result X E) (k h : X → Result Z E) → ((x : X) → k x ≡ h x) → (r >>= k) ≡ (r >>= h)
-same_after (Ok x) k h same = same x
-same_after (Err d) k h same = refl
 
 pub chained : {X Y Z E : Type 0} (r : Result X E) (k : X → Result Z E) (w : X → Result Y E) (fin : Y → Result Z E) → ((x : X) → k x ≡ (w x >>= fin)) → (r >>= k) ≡ ((r >>= w) >>= fin)
 chained (Ok x) k w fin h = h x

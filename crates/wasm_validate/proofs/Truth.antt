@@ -4,9 +4,11 @@ use Rattle.wasm_types.specs.declared.modules.Module.{Module}
 use Rattle.wasm_validate.specs.declared.fault.ValidKind.TheVariants.{UnknownType}
 use Rattle.wasm_validate.specs.declared.fault.Part.TheVariants as parts
 use Rattle.wasm_validate.specs.Steps.{◌>>=◌}
-use Rattle.wasm_validate.specs.declared.fault.Halt.{Halt}
-use Rattle.wasm_validate.specs.declared.fault.Halt.TheVariants as halts
-use Rattle.wasm_validate.specs.Faults.{Refuses, told_of, memory_fault}
+use Rattle.wasm_validate.specs.declared.fault.ValidFault.{ValidFault}
+use Rattle.basics.specs.declared.stop.Stop.{Stop}
+use Rattle.basics.specs.declared.stop.Stop.TheVariants as stops
+use Rattle.basics.specs.Stops.{Fails}
+use Rattle.wasm_validate.specs.Faults.{told_of, memory_fault}
 use Rattle.wasm_validate.specs.Spaces.{functions_in, globals_in, setting_of}
 use Rattle.wasm_validate.specs.Valid.{AllAt, HasType, GivesConstant, IsExport, IsElement, IsFunction, IsSegment, IsValid}
 use Rattle.wasm_validate.specs.Ready.{IsReady, IsExpression, params_count}
@@ -125,6 +127,6 @@ valid_faultless m v =
     (all_segments m v.data_segments)
 
 -- where a halt is told of a module without a fault, memory ran out
-pub only_memory : (e : Halt) (m : Module) → Refuses e (first_fault m) → IsValid m → told_of e ≡ memory_fault
-only_memory halts.Memory m h v = refl
-only_memory (halts.Fault f) m h v = let k = valid_faultless m v in absurd cc
+pub only_memory : (e : Stop ValidFault) (m : Module) → Fails e (first_fault m) → IsValid m → told_of e ≡ memory_fault
+only_memory stops.Memory m h v = refl
+only_memory (stops.Fault f) m h v = let k = valid_faultless m v in absurd cc

@@ -6,7 +6,7 @@ use Rattle.wasm_types.specs.declared.types.ValueType.TheVariants.{I32}
 use Rattle.wasm_types.specs.declared.instructions.Instr.{Instr}
 use Rattle.wasm_types.specs.declared.instructions.Instr.TheVariants.{Block, Loop, If, Else, End}
 use Rattle.wasm_validate.specs.declared.fault.ValidKind.{ValidKind}
-use Rattle.wasm_validate.specs.declared.fault.Stop.{Stop}
+use Rattle.basics.specs.declared.stop.Stop.{Stop}
 use Rattle.wasm_validate.specs.declared.operands.Operands.{Operands}
 use Rattle.wasm_validate.specs.declared.checker.Sort.{Sort}
 use Rattle.wasm_validate.specs.declared.checker.Sort.TheVariants as sorts
@@ -88,7 +88,7 @@ outset result = record {
 }
 
 -- What a step made of the open blocks, and whether it was the last one, unless memory ran out.
-abbrev pub Steps : Result Bool Stop → Checker → Result (Option Checker) ValidKind → Type 0
+abbrev pub Steps : Result Bool (Stop ValidKind) → Checker → Result (Option Checker) ValidKind → Type 0
 Steps (Ok true) new taken = taken ≡ Ok None
 Steps (Ok false) new taken = taken ≡ Ok (Some new)
 Steps (Err e) new taken = Fails e taken

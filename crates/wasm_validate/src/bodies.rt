@@ -2,7 +2,8 @@
 
 ghost use Rattle.std.specs.Prelude.{Some};
 ghost use Rattle.wasm_validate.specs.declared.fault.Part.TheVariants.{Code};
-ghost use Rattle.wasm_validate.specs.Faults.{in_part, Tells};
+ghost use Rattle.wasm_validate.specs.Faults.{in_part};
+ghost use Rattle.basics.specs.Stops.{Gives};
 ghost use Rattle.wasm_validate.specs.Scanning.{scan, outset};
 
 use crate::checker::Checker;
@@ -18,7 +19,7 @@ pub fn check_body(
     index: usize,
     code: &[Instr],
 ) -> Result<(), Halt>
-    ensures { Tells (λ x. x) result (in_part Code index (scan code.now setting.now (Some (outset setting.now.result)))) }
+    ensures { Gives (λ x. x) result (in_part Code index (scan code.now setting.now (Some (outset setting.now.result)))) }
 {
     let mut checker = Checker::new(alloc, setting.result)?;
     for instr in code {

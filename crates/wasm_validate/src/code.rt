@@ -1,7 +1,6 @@
 //! The code of a module.
 
 ghost use Rattle.std.specs.Prelude.{◌+◌, ◌≤◌, length};
-ghost use Rattle.wasm_validate.specs.Faults.{Tells};
 ghost use Rattle.wasm_validate.specs.Steps.{Gives};
 ghost use Rattle.wasm_validate.specs.Parts.{bodies_at, code_at, body_type};
 
@@ -30,7 +29,7 @@ fn check_function(
     code: &Code,
 ) -> Result<(), Halt>
     requires { first + index ≤ usize.MAX }
-    ensures { Tells (λ x. x) result (code_at setting.now first own.now index code.now) }
+    ensures { Gives (λ x. x) result (code_at setting.now first own.now index code.now) }
 {
     let kind = match body_type(setting, own, index) {
         Ok(kind) => kind,
@@ -60,7 +59,7 @@ pub fn check_code(
     code: &[Code],
 ) -> Result<(), Halt>
     requires { first + length code.now ≤ usize.MAX }
-    ensures { Tells (λ x. x) result (bodies_at setting.now first own.now code.now) }
+    ensures { Gives (λ x. x) result (bodies_at setting.now first own.now code.now) }
 {
     for (i, item) in code.iter().enumerate() {
         check_function(alloc, setting, first, own, i, item)?;

@@ -1,10 +1,8 @@
 //! Why a module isn't valid.
 
 ghost use Rattle.std.specs.Prelude.{◌≡◌};
-ghost use Rattle.wasm_validate.specs.declared.fault.Stop.TheVariants.{Memory};
-ghost use Rattle.wasm_validate.specs.Faults.{no_memory, fault_in, halt_in, told_of};
+ghost use Rattle.wasm_validate.specs.Faults.{fault_in, halt_in, told_of};
 
-use std::alloc::{AllocError, AllocFailed};
 
 /// What is wrong. `OutOfMemory` says nothing of the module.
 #[derive(Clone, Copy, Debug, PartialEq, Eq)]
@@ -37,28 +35,8 @@ pub enum ValidKind {
     OutOfMemory,
 }
 
-/// Why a check stopped: there was no memory, or something is wrong.
-#[derive(Clone, Copy, Debug, PartialEq, Eq)]
-pub enum Stop {
-    Memory,
-    Fault(ValidKind),
-}
-
-impl From<AllocError> for Stop {
-    ghost from_gives = { λ _ e. e ≡ Memory };
-
-    fn from(_e: AllocError) -> Stop {
-        Stop::Memory
-    }
-}
-
-impl<T: Drop> From<AllocFailed<T>> for Stop {
-    ghost from_gives = { λ _ e. e ≡ Memory };
-
-    fn from(_e: AllocFailed<T>) -> Stop {
-        Stop::Memory
-    }
-}
+/// Why a check stopped.
+pub type Stop = basics::Stop<ValidKind>;
 
 /// Where a fault stands: a section, or for `Code` the body of a function.
 #[derive(Clone, Copy, Debug, PartialEq, Eq)]
@@ -86,27 +64,7 @@ pub struct ValidFault {
 }
 
 /// Why the check of a module stopped.
-#[derive(Clone, Copy, Debug, PartialEq, Eq)]
-pub enum Halt {
-    Memory,
-    Fault(ValidFault),
-}
-
-impl From<AllocError> for Halt {
-    ghost from_gives = { λ _ e. e ≡ no_memory };
-
-    fn from(_e: AllocError) -> Halt {
-        Halt::Memory
-    }
-}
-
-impl<T: Drop> From<AllocFailed<T>> for Halt {
-    ghost from_gives = { λ _ e. e ≡ no_memory };
-
-    fn from(_e: AllocFailed<T>) -> Halt {
-        Halt::Memory
-    }
-}
+pub type Halt = basics::Stop<ValidFault>;
 
 /// A fault at a place.
 pub fn fault_in(part: Part, index: usize, kind: ValidKind, at: usize) -> ValidFault

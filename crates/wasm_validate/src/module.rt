@@ -1,7 +1,7 @@
 //! A whole module, part by part.
 
 ghost use Rattle.std.specs.Prelude.{◌≡◌, ◌+◌, ◌++◌, ◌≤◌, IfOk, length};
-ghost use Rattle.wasm_validate.specs.Faults.{Tells};
+ghost use Rattle.basics.specs.Stops.{Gives};
 ghost use Rattle.wasm_validate.specs.Spaces.{functions_in, tables_of, memories_of};
 ghost use Rattle.wasm_validate.specs.Parts.{later_fault, tables_at, memories_at, rest_fault, first_fault};
 
@@ -19,7 +19,7 @@ use wasm_types::{ExportKind, Import, Module};
 // The parts behind the globals; the first function that the module defines has a number.
 fn check_later(alloc: Global, setting: &Setting, first: usize, whole: &Module) -> Result<(), Halt>
     requires { first + length whole.now.code ≤ usize.MAX }
-    ensures { Tells (λ x. x) result (later_fault setting.now first whole.now) }
+    ensures { Gives (λ x. x) result (later_fault setting.now first whole.now) }
 {
     check_exports(alloc, setting, whole.exports.items())?;
     check_start(setting, whole.start)?;
@@ -37,7 +37,7 @@ fn check_later(alloc: Global, setting: &Setting, first: usize, whole: &Module) -
 // The limits of tables, and how many there are.
 #[tactic(auto, unfolding(crate::specs::Parts::tables_at))]
 fn check_tables(whole: &Module) -> Result<usize, Halt>
-    ensures { Tells (λ n. n) result (tables_at whole.now) }
+    ensures { Gives (λ n. n) result (tables_at whole.now) }
 {
     let imported = check_sizes_in(4_294_967_296, ExportKind::Table, whole.imports.items())?;
     check_sizes(Part::Table, 4_294_967_296, imported, whole.tables.items())
@@ -46,7 +46,7 @@ fn check_tables(whole: &Module) -> Result<usize, Halt>
 // The limits of memories, and how many there are.
 #[tactic(auto, unfolding(crate::specs::Parts::memories_at))]
 fn check_memories(whole: &Module) -> Result<usize, Halt>
-    ensures { Tells (λ n. n) result (memories_at whole.now) }
+    ensures { Gives (λ n. n) result (memories_at whole.now) }
 {
     let imported = check_sizes_in(65_536, ExportKind::Memory, whole.imports.items())?;
     check_sizes(Part::Memory, 65_536, imported, whole.memories.items())
@@ -66,7 +66,7 @@ fn check_rest(alloc: Global, tables: usize, memories: usize, whole: &Module) -> 
     requires tables_is { tables ≡ length (tables_of whole.now) }
     requires memories_is { memories ≡ length (memories_of whole.now) }
     requires one_count { length whole.now.code ≡ length whole.now.functions }
-    ensures { Tells (λ x. x) result (rest_fault whole.now) }
+    ensures { Gives (λ x. x) result (rest_fault whole.now) }
 {
     let imports = whole.imports.items();
     let own = whole.functions.items();
@@ -89,7 +89,7 @@ fn check_rest(alloc: Global, tables: usize, memories: usize, whole: &Module) -> 
 /// The parts of a module in their order.
 pub fn check_module(alloc: Global, whole: &Module) -> Result<(), Halt>
     requires { length whole.now.code ≡ length whole.now.functions }
-    ensures { Tells (λ x. x) result (first_fault whole.now) }
+    ensures { Gives (λ x. x) result (first_fault whole.now) }
 {
     check_imports(whole.types.items(), whole.imports.items())?;
     check_functions(whole.types.items(), whole.functions.items())?;

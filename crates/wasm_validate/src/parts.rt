@@ -4,7 +4,6 @@ ghost use Rattle.std.specs.Prelude.{◌≡◌, ℕ, ◌≤◌, nat_lt, length};
 ghost use Rattle.wasm_types.specs.declared.types.ValueType.TheVariants.{I32};
 ghost use Rattle.wasm_validate.specs.declared.fault.Part.TheVariants as parts;
 ghost use Rattle.wasm_validate.specs.Steps.{Gives};
-ghost use Rattle.wasm_validate.specs.Faults.{Tells};
 ghost use Rattle.wasm_validate.specs.Spaces.{sizes_in};
 ghost use Rattle.wasm_validate.specs.Parts.{imports_at, functions_at, globals_at, exports_at, elements_at, segments_at, import_type, within, sizes, all_present, constant, count_in, unknown, start, start_at, gives_nothing, all_below, element, segment};
 
@@ -37,7 +36,7 @@ fn import_type(types: &[FuncType], kind: ImportKind) -> Result<(), Stop>
 /// The types of imported functions.
 #[tactic(auto, unfolding(crate::specs::Parts::imports_at))]
 pub fn check_imports(types: &[FuncType], imports: &[Import]) -> Result<(), Halt>
-    ensures { Tells (λ x. x) result (imports_at types.now imports.now) }
+    ensures { Gives (λ x. x) result (imports_at types.now imports.now) }
 {
     for (i, import) in imports.iter().enumerate() {
         if let Err(stop) = import_type(types, import.kind) {
@@ -50,7 +49,7 @@ pub fn check_imports(types: &[FuncType], imports: &[Import]) -> Result<(), Halt>
 /// The types of the functions that the module defines.
 #[tactic(auto, unfolding(crate::specs::Parts::functions_at))]
 pub fn check_functions(types: &[FuncType], functions: &[u32]) -> Result<(), Halt>
-    ensures { Tells (λ x. x) result (functions_at types.now functions.now) }
+    ensures { Gives (λ x. x) result (functions_at types.now functions.now) }
 {
     for (i, index) in functions.iter().enumerate() {
         if types.len() <= *index as usize {
@@ -74,7 +73,7 @@ fn within(range: u64, limits: Limits) -> bool
 
 /// The limits of imported tables or of imported memories, and how many there are.
 pub fn check_sizes_in(range: u64, wanted: ExportKind, imports: &[Import]) -> Result<usize, Halt>
-    ensures { Tells (λ n. n) result (sizes parts.Import range 0 0 (sizes_in wanted imports.now)) }
+    ensures { Gives (λ n. n) result (sizes parts.Import range 0 0 (sizes_in wanted imports.now)) }
 {
     let mut seen = 0;
     for (i, import) in imports.iter().enumerate() {
@@ -93,7 +92,7 @@ pub fn check_sizes_in(range: u64, wanted: ExportKind, imports: &[Import]) -> Res
 
 /// The limits of tables or memories, where so many are imported.
 pub fn check_sizes(part: Part, range: u64, imported: usize, all: &[Limits]) -> Result<usize, Halt>
-    ensures { Tells (λ n. n) result (sizes part range 0 imported (all_present all.now)) }
+    ensures { Gives (λ n. n) result (sizes part range 0 imported (all_present all.now)) }
 {
     let mut seen = imported;
     for (i, limits) in all.iter().enumerate() {
@@ -115,7 +114,7 @@ pub fn check_globals(
     globals: &[GlobalType],
     items: &[GlobalItem],
 ) -> Result<(), Halt>
-    ensures { Tells (λ x. x) result (globals_at globals.now items.now) }
+    ensures { Gives (λ x. x) result (globals_at globals.now items.now) }
 {
     for (i, item) in items.iter().enumerate() {
         if let Err(stop) = constant(alloc, globals, item.kind.kind, item.start.items()) {
@@ -150,7 +149,7 @@ fn unknown(kind: ExportKind) -> ValidKind
 /// What is exported, and under which names.
 #[tactic(auto, unfolding(crate::specs::Parts::exports_at))]
 pub fn check_exports(alloc: Global, setting: &Setting, exports: &[Export]) -> Result<(), Halt>
-    ensures { Tells (λ x. x) result (exports_at setting.now exports.now) }
+    ensures { Gives (λ x. x) result (exports_at setting.now exports.now) }
 {
     let mut names: BTreeSet<&[u8]> = BTreeSet::new(alloc);
     for (i, export) in exports.iter().enumerate() {
@@ -187,7 +186,7 @@ fn start(setting: &Setting, index: u32) -> Result<(), Stop>
 
 /// The start function.
 pub fn check_start(setting: &Setting, function: Option<u32>) -> Result<(), Halt>
-    ensures { Tells (λ x. x) result (start_at setting.now function) }
+    ensures { Gives (λ x. x) result (start_at setting.now function) }
 {
     match function {
         None => Ok(()),
@@ -226,7 +225,7 @@ fn element(alloc: Global, setting: &Setting, item: &Element) -> Result<(), Stop>
 /// The element segments.
 #[tactic(auto, unfolding(crate::specs::Parts::elements_at))]
 pub fn check_elements(alloc: Global, setting: &Setting, items: &[Element]) -> Result<(), Halt>
-    ensures { Tells (λ x. x) result (elements_at setting.now items.now) }
+    ensures { Gives (λ x. x) result (elements_at setting.now items.now) }
 {
     for (i, item) in items.iter().enumerate() {
         if let Err(stop) = element(alloc, setting, item) {
@@ -248,7 +247,7 @@ fn segment(alloc: Global, setting: &Setting, item: &Segment) -> Result<(), Stop>
 /// The data segments.
 #[tactic(auto, unfolding(crate::specs::Parts::segments_at))]
 pub fn check_segments(alloc: Global, setting: &Setting, items: &[Segment]) -> Result<(), Halt>
-    ensures { Tells (λ x. x) result (segments_at setting.now items.now) }
+    ensures { Gives (λ x. x) result (segments_at setting.now items.now) }
 {
     for (i, item) in items.iter().enumerate() {
         if let Err(stop) = segment(alloc, setting, item) {
