@@ -6,6 +6,7 @@ use Rattle.std.proofs.lemmas.List.{take_at, drop_at, length-append, append-nil, 
 use Rattle.wasm_types.specs.declared.types.ValueType.{ValueType}
 use Rattle.wasm_types.specs.declared.types.FuncType.{FuncType}
 use Rattle.wasm_types.specs.declared.modules.Code.{Code}
+use Rattle.wasm_code.specs.declared.fault.ReadKind.{ReadKind}
 use Rattle.wasm_code.specs.declared.fault.ReadKind.TheVariants.{SectionSize, TooLarge}
 use Rattle.wasm_code.specs.declared.fault.ReadFault.{ReadFault}
 use Rattle.wasm_code.specs.declared.scope.Scope.{Scope}
@@ -19,7 +20,7 @@ use Rattle.wasm_code.proofs.ExactInstructions.{value_type_exact}
 use Rattle.wasm_code.proofs.ExactExpressions.{expression_exact, u32_takes}
 use Rattle.wasm_reader.specs.Grammar.{AreBytes, IsName, IsSized, Group, IsGroup, locals_of, params_of, IsBody, AreBodies, AreCode, IsCustom, AreCustoms, IsOptional, Section}
 use Rattle.wasm_reader.specs.Reading.{name_at}
-use Rattle.wasm_reader.specs.Sections.{Inside, open_at, close_at, sized_at, is_bad_leb, crowded, crowded_at, groups_at, locals_from, locals_at, body_at, bodies_at, code_section_at, custom_at, next_custom_at, customs_from, customs_at, optional_at, section_at}
+use Rattle.wasm_reader.specs.Sections.{Inside, short_before, open_at, close_at, sized_at, is_bad_leb, crowded, crowded_at, groups_at, locals_from, locals_at, body_at, bodies_at, code_section_at, custom_at, next_custom_at, customs_from, customs_at, optional_at, section_at}
 use Rattle.wasm_reader.proofs.ExactParts.{cut_is, cut_again, name_exact}
 use Rattle.wasm_reader.proofs.Loops.{customs_go, customs_stop}
 
@@ -28,16 +29,16 @@ eqb_same n = eq-eqb n n refl
 
 -- ---- a stated size
 
-abbrev whole_part : Scope → List ℕ → List ℕ → Inside
-whole_part scope inside rest = record { scope = record { end = scope.end - length rest; short = SectionSize }; content = inside; after = rest; whole = true }
+abbrev whole_part : ReadKind → Scope → List ℕ → List ℕ → Inside
+whole_part last scope inside rest = record { scope = record { end = scope.end - length rest; short = short_before last rest }; content = inside; after = rest; whole = true }
 
 abbrev cut_part : Scope → List ℕ → Inside
 cut_part scope content = record { scope = scope; content = content; after = []; whole = false }
 
-open_sound : (scope : Scope) (bytes : List ℕ) (part : Inside) → open_at scope bytes ≡ Ok part → part.whole ≡ true → AreBytes bytes part.content part.after
+open_sound : (last : ReadKind) (scope : Scope) (bytes : List ℕ) (part : Inside) → open_at last scope bytes ≡ Ok part → part.whole ≡ true → AreBytes bytes part.content part.after
 unfolding open_at
-open_sound scope bytes part e w =
-    let made : ℕ × List ℕ → Inside = λ size. whole_part scope (take size.0 size.1) (drop size.0 size.1) in
+open_sound last scope bytes part e w =
+    let made : ℕ × List ℕ → Inside = λ size. whole_part last scope (take size.0 size.1) (drop size.0 size.1) in
     let a = bind_ok (u32_at scope bytes) (λ size. cond (leb size.0 (length size.1)) (Ok (made size)) (Ok (cut_part scope size.1))) part e in
     let n = a.0.0 in
     let r = a.0.1 in
@@ -52,9 +53,9 @@ open_sound scope bytes part e w =
           absurd (let e' = no in cc)
     ]
 
-open_complete : (scope : Scope) (bytes inside rest : List ℕ) → AreBytes bytes inside rest → open_at scope bytes ≡ Ok (whole_part scope inside rest)
+open_complete : (last : ReadKind) (scope : Scope) (bytes inside rest : List ℕ) → AreBytes bytes inside rest → open_at last scope bytes ≡ Ok (whole_part last scope inside rest)
 unfolding open_at
-open_complete scope bytes inside rest h =
+open_complete last scope bytes inside rest h =
     let n = (u32_exact scope).complete bytes (inside ++ rest) (length inside) h in
     rw (n, cut_again inside rest, take_at inside rest (length inside) refl, drop_at inside rest (length inside) refl) refl
 
@@ -65,28 +66,28 @@ close_sound part [] after e =
     (refl, g.0, ok_is part.after after g.1)
 close_sound part (b ∷ r) after e = absurd cc
 
-close_complete : (scope : Scope) (inside rest : List ℕ) → close_at (whole_part scope inside rest) [] ≡ Ok rest
+close_complete : (last : ReadKind) (scope : Scope) (inside rest : List ℕ) → close_at (whole_part last scope inside rest) [] ≡ Ok rest
 unfolding close_at
-close_complete scope inside rest = refl
+close_complete last scope inside rest = refl
 
-pub sized_exact : {A : Type 0} (content : Scope → List ℕ → Reading A) (Is : List ℕ → A → List ℕ → Type 0) → ((scope : Scope) → IsExact (content scope) Is) → (scope : Scope) → IsExact (sized_at content scope) (IsSized Is)
+pub sized_exact : {A : Type 0} (last : ReadKind) (content : Scope → List ℕ → Reading A) (Is : List ℕ → A → List ℕ → Type 0) → ((scope : Scope) → IsExact (content scope) Is) → (scope : Scope) → IsExact (sized_at last content scope) (IsSized Is)
 unfolding sized_at
-sized_exact {A} content Is exact scope = record {
+sized_exact {A} last content Is exact scope = record {
   sound = λ bytes rest v e.
-      let a = bind_ok (open_at scope bytes) (λ part. content part.scope part.content >>= λ x. close_at part x.1 >>= λ after. Ok (x.0, after)) (v, rest) e in
+      let a = bind_ok (open_at last scope bytes) (λ part. content part.scope part.content >>= λ x. close_at part x.1 >>= λ after. Ok (x.0, after)) (v, rest) e in
       let b = bind_ok (content a.0.scope a.0.content) (λ x. close_at a.0 x.1 >>= λ after. Ok (x.0, after)) (v, rest) a.2 in
       let c = bind_ok (close_at a.0 b.0.1) (λ after. Ok (b.0.0, after)) (v, rest) b.2 in
       let same = pair_is b.0.0 v c.0 rest c.2 in
       let closed = close_sound a.0 b.0.1 c.0 c.1 in
-      let opened = open_sound scope bytes a.0 a.1 closed.1 in
+      let opened = open_sound last scope bytes a.0 a.1 closed.1 in
       let inner = (exact a.0.scope).sound a.0.content b.0.1 b.0.0 b.1 in
       let made : IsSized Is bytes b.0.0 c.0 = (a.0.content, subst (λ (r : List ℕ). AreBytes bytes a.0.content r) closed.2 opened, subst (λ (r : List ℕ). Is a.0.content b.0.0 r) closed.0 inner) in
       subst (λ (p : A × List ℕ). IsSized Is bytes p.0 p.1) (ap2_pair same.0 same.1) made;
   complete = λ bytes rest v h.
-      let part = whole_part scope h.0 rest in
-      let opened = open_complete scope bytes h.0 rest h.1 in
+      let part = whole_part last scope h.0 rest in
+      let opened = open_complete last scope bytes h.0 rest h.1 in
       let inner = (exact part.scope).complete h.0 [] v h.2 in
-      let closed = close_complete scope h.0 rest in
+      let closed = close_complete last scope h.0 rest in
       rw (opened, inner, closed) refl;
 }
 
@@ -180,10 +181,10 @@ bodies_sound types functions index zero scope bytes rest cs e =
     (ap (λ (ys : List Code). length ys) (sym same.0), subst (λ (ys : List Code). AreBodies types functions index bytes ys rest) same.0 same.1)
 bodies_sound types functions index (suc n) scope bytes rest cs e =
     let read = body_at (params_of types functions index) in
-    let a = bind_ok (sized_at read scope bytes) (λ first. bodies_at types functions (suc index) n scope first.1 >>= λ others. Ok (first.0 ∷ others.0, others.1)) (cs, rest) e in
+    let a = bind_ok (sized_at scope.short read scope bytes) (λ first. bodies_at types functions (suc index) n scope first.1 >>= λ others. Ok (first.0 ∷ others.0, others.1)) (cs, rest) e in
     let b = bind_ok (bodies_at types functions (suc index) n scope a.0.1) (λ others. Ok (a.0.0 ∷ others.0, others.1)) (cs, rest) a.2 in
     let same = pair_is (a.0.0 ∷ b.0.0) cs b.0.1 rest b.2 in
-    let first = (sized_exact read (IsBody (params_of types functions index)) (body_exact (params_of types functions index)) scope).sound bytes a.0.1 a.0.0 a.1 in
+    let first = (sized_exact scope.short read (IsBody (params_of types functions index)) (body_exact (params_of types functions index)) scope).sound bytes a.0.1 a.0.0 a.1 in
     let inner = bodies_sound types functions (suc index) n scope a.0.1 b.0.1 b.0.0 b.1 in
     let made : (length (a.0.0 ∷ b.0.0) ≡ suc n) × AreBodies types functions index bytes (a.0.0 ∷ b.0.0) b.0.1 = (ap suc inner.0, (a.0.1, first, inner.1)) in
     subst (λ (p : List Code × List ℕ). (length p.0 ≡ suc n) × AreBodies types functions index bytes p.0 p.1) (ap2_pair same.0 same.1) made
@@ -192,7 +193,7 @@ bodies_complete : (types : List FuncType) (functions : List ℕ) (index : ℕ) (
 unfolding bodies_at
 bodies_complete types functions index scope bytes rest [] h = ap (λ (t : List ℕ). Ok ([], t)) h
 bodies_complete types functions index scope bytes rest (c ∷ cs) h =
-    let first = (sized_exact (body_at (params_of types functions index)) (IsBody (params_of types functions index)) (body_exact (params_of types functions index)) scope).complete bytes h.0 c h.1 in
+    let first = (sized_exact scope.short (body_at (params_of types functions index)) (IsBody (params_of types functions index)) (body_exact (params_of types functions index)) scope).complete bytes h.0 c h.1 in
     let others = bodies_complete types functions (suc index) scope h.0 rest cs h.2 in
     rw (first, others) refl
 
@@ -219,19 +220,19 @@ NotCustom (b ∷ rest) = b ≡ 0 → ⊥
 custom_sound : (scope : Scope) (bytes after : List ℕ) → custom_at scope bytes ≡ Ok after → (inside : List ℕ) × (name : List ℕ) × (mid : List ℕ) × AreBytes bytes inside after × IsName inside name mid
 unfolding custom_at
 custom_sound scope bytes after e =
-    let a = bind_ok (open_at scope bytes) (λ part. name_at part.scope part.content >>= λ name. close_at part []) after e in
+    let a = bind_ok (open_at SectionSize scope bytes) (λ part. name_at part.scope part.content >>= λ name. close_at part []) after e in
     let b = bind_ok (name_at a.0.scope a.0.content) (λ name. close_at a.0 []) after a.2 in
     let closed = close_sound a.0 [] after b.2 in
-    let opened = open_sound scope bytes a.0 a.1 closed.1 in
+    let opened = open_sound SectionSize scope bytes a.0 a.1 closed.1 in
     (a.0.content, b.0.0, b.0.1, subst (λ (r : List ℕ). AreBytes bytes a.0.content r) closed.2 opened, (name_exact a.0.scope).sound a.0.content b.0.1 b.0.0 b.1)
 
 custom_complete : (scope : Scope) (bytes inside name mid after : List ℕ) → AreBytes bytes inside after → IsName inside name mid → custom_at scope bytes ≡ Ok after
 unfolding custom_at
 custom_complete scope bytes inside name mid after h n =
-    let part = whole_part scope inside after in
-    let opened = open_complete scope bytes inside after h in
+    let part = whole_part SectionSize scope inside after in
+    let opened = open_complete SectionSize scope bytes inside after h in
     let named = (name_exact part.scope).complete inside mid name n in
-    let closed = close_complete scope inside after in
+    let closed = close_complete SectionSize scope inside after in
     rw (opened, named) closed
 
 abbrev pub found : Option (List ℕ) → Result (Option (List ℕ)) ReadFault
@@ -358,7 +359,7 @@ unfolding optional_at
 optional_sound id none content Is exact scope [] rest x e = let same = pair_is none x [] rest e in inl (sym same.0, same.1)
 optional_sound id none content Is exact scope (b ∷ bytes) rest x e =
     elim (cases_Bool (eqb b id)) [
-      | inl t ↦ inr (bytes, ap (λ (k : ℕ). k ∷ bytes) (eqb-true b id t), (sized_exact content Is exact scope).sound bytes rest x (rw t at e))
+      | inl t ↦ inr (bytes, ap (λ (k : ℕ). k ∷ bytes) (eqb-true b id t), (sized_exact SectionSize content Is exact scope).sound bytes rest x (rw t at e))
       | inr f ↦ (let same = pair_is none x (b ∷ bytes) rest (rw f at e) in inl (sym same.0, same.1))
     ]
 
@@ -366,7 +367,7 @@ optional_there : {A : Type 0} (id : ℕ) (none : A) (content : Scope → List �
 unfolding optional_at
 optional_there id none content Is exact scope bytes rest x h =
     let t : eqb id id ≡ true = eqb_same id in
-    let r = (sized_exact content Is exact scope).complete h.0 rest x h.2 in
+    let r = (sized_exact SectionSize content Is exact scope).complete h.0 rest x h.2 in
     ap (optional_at id none content scope) h.1 ∙ rw (t, r) refl
 
 optional_not : {A : Type 0} (id : ℕ) (none : A) (content : Scope → List ℕ → Reading A) (scope : Scope) (bytes : List ℕ) → IsAbove (suc id) bytes → optional_at id none content scope bytes ≡ Ok (none, bytes)

@@ -1,5 +1,5 @@
 -- From the first faults of one reading to those of another; sequences.
-use Rattle.std.proofs.Common.{◌≡◌, ℕ, List, [], ◌++◌, Result, Ok, Err, refl, sym, ap, subst, ◌∙◌, ◌⊎◌, inl, inr, append_assoc}
+use Rattle.std.proofs.Common.{◌≡◌, ℕ, Bool, true, false, List, [], ◌++◌, Result, Ok, Err, refl, sym, ap, subst, ◌∙◌, ◌⊎◌, inl, inr, append_assoc}
 use Rattle.std.proofs.lemmas.List.{append-nil}
 use Rattle.wasm_code.specs.declared.fault.ReadKind.{ReadKind}
 use Rattle.wasm_code.specs.declared.fault.ReadKind.TheVariants.{SectionSize, BadLeb, TooLarge}
@@ -10,7 +10,7 @@ use Rattle.wasm_code.proofs.FirstSequences.{bind_err}
 use Rattle.wasm_code.proofs.Steps.{bind_ok}
 use Rattle.wasm_code.proofs.FirstSequences.{IsLocal, Reads}
 use Rattle.wasm_code.specs.FirstFault as plain
-use Rattle.wasm_reader.specs.FirstFault.{IsCut, IsOutgrown, IsNotMended, IsCutCount, IsFirstBut, TellsFirstBut}
+use Rattle.wasm_reader.specs.FirstFault.{IsCut, MayOutgrow, IsNotMended, IsCutCount, IsFirstBut}
 
 -- ---- from one reading to another that has its faults
 
@@ -39,21 +39,22 @@ pub record Carries {A B : Type 0} (EndsA : Ending A) (EndsB : Ending B) (read : 
 abbrev pub IsOpen : (List ℕ → Type 0) → List ℕ → Type 0
 IsOpen Are bytes = (front tail : List ℕ) → bytes ≡ front ++ tail → Are front × ((more : List ℕ) → Are (front ++ (tail ++ more)))
 
-pub carry : {A B : Type 0} (EndsA : Ending A) (EndsB : Ending B) (read : Scope → List ℕ → Result A ReadFault) (other : Scope → List ℕ → Result B ReadFault) (pre : List ℕ) (Are : List ℕ → Type 0) → Carries EndsA EndsB read other pre Are → (scope : Scope) (bytes : List ℕ) (fault : ReadFault) → IsOpen Are bytes → IsFirstBut EndsA read scope bytes fault → IsFirstBut EndsB other scope (pre ++ bytes) fault
-carry EndsA EndsB read other pre Are c scope bytes fault goes f = record {
+pub carry : {A B : Type 0} {sections : Bool} (EndsA : Ending A) (EndsB : Ending B) (read : Scope → List ℕ → Result A ReadFault) (other : Scope → List ℕ → Result B ReadFault) (pre : List ℕ) (Are : List ℕ → Type 0) → Carries EndsA EndsB read other pre Are → (scope : Scope) (bytes : List ℕ) (fault : ReadFault) → IsOpen Are bytes → IsFirstBut sections EndsA read scope bytes fault → IsFirstBut sections EndsB other scope (pre ++ bytes) fault
+carry {A} {B} {sections} EndsA EndsB read other pre Are c scope bytes fault goes f = record {
   front = pre ++ f.front;
   tail = f.tail;
   parts = ap (λ (l : List ℕ). pre ++ l) f.parts ∙ sym (append_assoc pre f.front f.tail);
-  before = before f.before;
+  before = before sections f.before;
   there = there f.there;
 }
   where
     are : Are f.front × ((more : List ℕ) → Are (f.front ++ (f.tail ++ more)))
     are = goes f.front f.tail f.parts
 
-    before : (((s : Scope) → EndsA s (read s f.front)) ⊎ ((fault.kind ≡ SectionSize) × IsOutgrown read f.front)) → (((s : Scope) → EndsB s (other s (pre ++ f.front))) ⊎ ((fault.kind ≡ SectionSize) × IsOutgrown other (pre ++ f.front)))
-    before (inl right) = inl (λ s. c.ends s f.front are.0 (right s))
-    before (inr grown) = inr (grown.0, λ s. c.fails s f.front (fault_at SectionSize s []) are.0 (grown.1 s))
+    before : (may : Bool) → (((s : Scope) → EndsA s (read s f.front)) ⊎ MayOutgrow may read fault f.front) → (((s : Scope) → EndsB s (other s (pre ++ f.front))) ⊎ MayOutgrow may other fault (pre ++ f.front))
+    before may (inl right) = inl (λ s. c.ends s f.front are.0 (right s))
+    before false (inr grown) = absurd grown
+    before true (inr grown) = inr (grown.0, λ s. c.fails s f.front (fault_at SectionSize s []) are.0 (grown.1 s))
 
     again : (s : Scope) (more : List ℕ) (e : ReadFault) → read s (f.front ++ (f.tail ++ more)) ≡ Err e → other s ((pre ++ f.front) ++ (f.tail ++ more)) ≡ Err e
     again s more e h = ap (other s) (append_assoc pre f.front (f.tail ++ more)) ∙ c.fails s (f.front ++ (f.tail ++ more)) e (are.1 more) h
@@ -87,15 +88,23 @@ Any bytes = Unit {0}
 pub any : (bytes : List ℕ) → IsOpen Any bytes
 any bytes front tail e = (tt, λ more. tt)
 
+-- text without an exception has none that it may have
+pub loosely : {A : Type 0} (sections : Bool) (Ends : Ending A) (read : Scope → List ℕ → Result A ReadFault) (scope : Scope) (bytes : List ℕ) (fault : ReadFault) → IsFirstBut false Ends read scope bytes fault → IsFirstBut sections Ends read scope bytes fault
+loosely sections Ends read scope bytes fault f = record { front = f.front; tail = f.tail; parts = f.parts; before = before f.before; there = f.there }
+  where
+    before : (((s : Scope) → Ends s (read s f.front)) ⊎ ⊥) → (((s : Scope) → Ends s (read s f.front)) ⊎ MayOutgrow sections read fault f.front)
+    before (inl right) = inl right
+    before (inr never) = absurd never
+
 -- ---- sequences
 
 -- a reading takes bytes from the front, and tells its first fault
-pub record Tells {A : Type 0} (read : Scope → List ℕ → Reading A) : Type 0 where
+pub record Tells {A : Type 0} (sections : Bool) (read : Scope → List ℕ → Reading A) : Type 0 where
   pub takes : IsLocal read
-  pub tells : TellsFirstBut IsCut read
+  pub tells : (scope : Scope) (bytes : List ℕ) (fault : ReadFault) → read scope bytes ≡ Err fault → IsFirstBut sections IsCut read scope bytes fault
 
 -- without exceptions
-pub plainly : {A : Type 0} (read : Scope → List ℕ → Reading A) (scope : Scope) (bytes : List ℕ) (fault : ReadFault) → plain.IsFirst read scope bytes fault → IsFirstBut IsCut read scope bytes fault
+pub plainly : {A : Type 0} (read : Scope → List ℕ → Reading A) (scope : Scope) (bytes : List ℕ) (fault : ReadFault) → plain.IsFirst read scope bytes fault → IsFirstBut false IsCut read scope bytes fault
 plainly {A} read scope bytes fault f = record { front = f.front; tail = f.tail; parts = f.parts; before = inl f.before; there = there f.there }
   where
     there : (((f.tail ≡ []) × (fault ≡ short_of scope)) ⊎ ((kind : ReadKind) × (fault ≡ fault_at kind scope f.tail) × plain.IsNotMended read kind f.front f.tail))
@@ -103,7 +112,7 @@ plainly {A} read scope bytes fault f = record { front = f.front; tail = f.tail; 
     there (inl cut) = inl (cut.0, ap (λ (e : ReadFault). failed e) cut.1)
     there (inr told) = inr (told.0, told.1, inl told.2)
 
-pub tells_plainly : {A : Type 0} (read : Scope → List ℕ → Reading A) → Reads read → Tells read
+pub tells_plainly : {A : Type 0} (read : Scope → List ℕ → Reading A) → Reads read → Tells false read
 tells_plainly read r = record { takes = r.takes; tells = λ scope bytes fault e. plainly read scope bytes fault (r.tells scope bytes fault e) }
 
 abbrev then_at : {A B : Type 0} → (Scope → List ℕ → Reading A) → (A → Scope → List ℕ → Reading B) → Scope → List ℕ → Reading B
@@ -116,7 +125,7 @@ then_stops : {A B : Type 0} (first : Scope → List ℕ → Reading A) (second :
 then_stops first second s bytes e h = rw h refl
 
 -- one reading behind another
-pub after : {A B : Type 0} (first : Scope → List ℕ → Reading A) (second : A → Scope → List ℕ → Reading B) → Tells first → ((x : A) → Tells (second x)) → Tells (λ s b. first s b >>= λ a. second a.0 s a.1)
+pub after : {A B : Type 0} (first : Scope → List ℕ → Reading A) (second : A → Scope → List ℕ → Reading B) → Tells false first → ((x : A) → Tells false (second x)) → Tells false (λ s b. first s b >>= λ a. second a.0 s a.1)
 after {A} {B} first second f g = record {
   takes = λ scope bytes rest y e.
       let a = bind_ok (first scope bytes) (λ a. second a.0 scope a.1) (y, rest) e in
@@ -129,9 +138,9 @@ after {A} {B} first second f g = record {
   tells = λ scope bytes fault e. tell scope bytes fault (bind_err (first scope bytes) (λ a. second a.0 scope a.1) fault e);
 }
   where
-    tell : (scope : Scope) (bytes : List ℕ) (fault : ReadFault) → ((first scope bytes ≡ Err fault) ⊎ ((a : A × List ℕ) × (first scope bytes ≡ Ok a) × (second a.0 scope a.1 ≡ Err fault))) → IsFirstBut IsCut (then_at first second) scope bytes fault
+    tell : (scope : Scope) (bytes : List ℕ) (fault : ReadFault) → ((first scope bytes ≡ Err fault) ⊎ ((a : A × List ℕ) × (first scope bytes ≡ Ok a) × (second a.0 scope a.1 ≡ Err fault))) → IsFirstBut false IsCut (then_at first second) scope bytes fault
     tell scope bytes fault (inl e) = carry IsCut IsCut first (then_at first second) [] Any (record { fails = λ s b d a h. then_stops first second s b d h; ends = λ s b a h. then_stops first second s b (short_of s) h; stops = λ s d h. ap (λ (x : ReadFault). failed x) (same_fault {A = A × List ℕ} d (short_of s) h) }) scope bytes fault (any bytes) (f.tells scope bytes fault e)
     tell scope bytes fault (inr a) =
         let t = f.takes scope bytes a.0.1 a.0.0 a.1 in
         let made = carry IsCut IsCut (second a.0.0) (then_at first second) t.0 Any (record { fails = λ s b d z h. then_goes first second s (t.0 ++ b) b a.0.0 (t.2 s b) ∙ h; ends = λ s b z h. then_goes first second s (t.0 ++ b) b a.0.0 (t.2 s b) ∙ h; stops = λ s d h. h }) scope a.0.1 fault (any a.0.1) ((g a.0.0).tells scope a.0.1 fault a.2) in
-        subst (λ (l : List ℕ). IsFirstBut IsCut (then_at first second) scope l fault) (sym t.1) made
+        subst (λ (l : List ℕ). IsFirstBut false IsCut (then_at first second) scope l fault) (sym t.1) made

@@ -20,7 +20,7 @@ use Rattle.wasm_reader.specs.Sections.{sized_at, crowded_at, groups_at, locals_f
 use Rattle.wasm_reader.specs.FirstFault.{IsCut, IsNotMended, IsCutCount, IsFirstBut}
 use Rattle.wasm_reader.proofs.FirstCarried.{failed, same_fault, fault_no_value, Tells, tells_plainly, after}
 use Rattle.wasm_reader.proofs.FirstContent.{cases}
-use Rattle.wasm_reader.proofs.FirstSized.{as_is, sized_reads}
+use Rattle.wasm_reader.proofs.FirstSized.{as_is, body_reads}
 use Rattle.wasm_reader.proofs.FirstParts.{locals_reads}
 
 -- ---- the count of groups
@@ -114,7 +114,7 @@ crowd params many scope b bytes =
           ])
     ]
 
-crowd_tells : (params : ℕ) → ltb 4096 params ≡ true → (scope : Scope) (bytes : List ℕ) (fault : ReadFault) → groups_at params scope bytes ≡ Err fault → IsFirstBut IsCut (groups_at params) scope bytes fault
+crowd_tells : (params : ℕ) → ltb 4096 params ≡ true → (scope : Scope) (bytes : List ℕ) (fault : ReadFault) → groups_at params scope bytes ≡ Err fault → IsFirstBut false IsCut (groups_at params) scope bytes fault
 crowd_tells params many scope [] fault e = record { front = []; tail = []; parts = refl; before = inl (groups_nil params); there = inl (refl, sym e ∙ groups_nil params scope) }
 crowd_tells params many scope (b ∷ bytes) fault e =
     let c = crowd params many scope b bytes in
@@ -132,7 +132,7 @@ crowd_takes params many scope (b ∷ bytes) rest n e =
     let c = crowd params many scope b bytes in
     fault_no_value (n, rest) (fault_at c.0 scope (b ∷ bytes)) (sym c.1 ∙ sym (groups_many params many scope b bytes) ∙ e)
 
-groups_tell : (params : ℕ) → Tells (groups_at params)
+groups_tell : (params : ℕ) → Tells false (groups_at params)
 groups_tell params =
     elim (cases_Bool (ltb 4096 params)) [
       | inl many ↦ record { takes = λ scope bytes rest n e. crowd_takes params many scope bytes rest n e; tells = λ scope bytes fault e. crowd_tells params many scope bytes fault e }
@@ -141,28 +141,28 @@ groups_tell params =
 
 -- ---- bodies
 
-locals_tell : (params : ℕ) → Tells (locals_at params)
+locals_tell : (params : ℕ) → Tells false (locals_at params)
 unfolding locals_at
 locals_tell params = after (groups_at params) (λ n s b. locals_from params [] n s b) (groups_tell params) (λ n. tells_plainly (λ s b. locals_from params [] n s b) (locals_reads params [] n))
 
 abbrev code_of : List ValueType → List Instr → Code
 code_of locals body = record { locals = locals; body = body }
 
-pub body_tells : (params : ℕ) → Tells (body_at params)
+pub body_tells : (params : ℕ) → Tells false (body_at params)
 unfolding body_at
 body_tells params = after (locals_at params) (λ locals s b. expression_at s b >>= λ code. Ok (code_of locals code.0, code.1)) (locals_tell params) (λ locals. tells_plainly (λ s b. expression_at s b >>= λ code. Ok (code_of locals code.0, code.1)) (mapped expression_at (λ code. code_of locals code) expression_reads))
 
 abbrev joined : Code → List Code → List Code
 joined first others = first ∷ others
 
-bodies_tell : (types : List FuncType) (functions : List ℕ) (index n : ℕ) → Tells (bodies_at types functions index n)
+bodies_tell : (types : List FuncType) (functions : List ℕ) (index n : ℕ) → Tells false (bodies_at types functions index n)
 unfolding bodies_at
 bodies_tell types functions index zero = tells_plainly (λ s b. Ok ([], b)) (done [])
 bodies_tell types functions index (suc n) =
     let read = body_at (params_of types functions index) in
-    after (sized_at read) (λ first s b. bodies_at types functions (suc index) n s b >>= λ others. Ok (joined first others.0, others.1)) (sized_reads read (body_tells (params_of types functions index))) (λ first.
+    after (λ s b. sized_at s.short read s b) (λ first s b. bodies_at types functions (suc index) n s b >>= λ others. Ok (joined first others.0, others.1)) (body_reads read (body_tells (params_of types functions index))) (λ first.
     after (bodies_at types functions (suc index) n) (λ others s b. Ok (joined first others, b)) (bodies_tell types functions (suc index) n) (λ others. tells_plainly (λ s b. Ok (joined first others, b)) (done (joined first others))))
 
-pub code_tells : (types : List FuncType) (functions : List ℕ) → Tells (code_section_at types functions)
+pub code_tells : (types : List FuncType) (functions : List ℕ) → Tells false (code_section_at types functions)
 unfolding code_section_at
 code_tells types functions = after (count_at 65536) (λ n s b. bodies_at types functions 0 n s b) (tells_plainly (count_at 65536) (count_reads 65536)) (λ n. bodies_tell types functions 0 n)

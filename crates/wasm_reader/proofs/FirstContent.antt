@@ -10,7 +10,7 @@ use Rattle.wasm_code.specs.Reading.{Reading, ◌>>=◌, fault_at, short_of, u32_
 use Rattle.wasm_code.proofs.Steps.{bind_ok, ok_is}
 use Rattle.wasm_code.proofs.FirstSequences.{TakesFront, bind_err}
 use Rattle.wasm_code.proofs.FirstNumbers.{u32_reads}
-use Rattle.wasm_reader.specs.Sections.{Inside, open_at}
+use Rattle.wasm_reader.specs.Sections.{Inside, short_before, open_at}
 use Rattle.wasm_reader.specs.FirstFault.{IsCut, IsFirstBut, TellsFirstBut}
 use Rattle.wasm_reader.proofs.FirstCarried.{failed, given, same_fault, fault_no_value, Any, any, carry, Tells}
 
@@ -30,6 +30,11 @@ pub record Content {A : Type 0} (all : Scope → List ℕ → Result A ReadFault
   pub same : (s z : Scope) (bytes : List ℕ) (x : A) → all s bytes ≡ Ok x → all z bytes ≡ Ok x
   pub tells : TellsFirstBut IsFinished all
 
+-- what has no exception
+pub settled : {X : Type 0} → (X ⊎ ⊥) → X
+settled (inl x) = x
+settled (inr never) = absurd never
+
 -- nothing may be left
 abbrev pub left_of : {A : Type 0} → Scope → A → List ℕ → Result A ReadFault
 left_of s x [] = Ok x
@@ -48,7 +53,7 @@ all_goes read s bytes rest x e = rw e refl
 all_stops : {A : Type 0} (read : Scope → List ℕ → Reading A) (s : Scope) (bytes : List ℕ) (e : ReadFault) → read s bytes ≡ Err e → all_of read s bytes ≡ Err e
 all_stops read s bytes e h = rw h refl
 
-left_tells : {A : Type 0} (read : Scope → List ℕ → Reading A) (scope : Scope) (bytes rest : List ℕ) (x : A) (fault : ReadFault) → TakesFront read bytes x rest → left_of scope x rest ≡ Err fault → IsFirstBut IsFinished (all_of read) scope bytes fault
+left_tells : {A : Type 0} (read : Scope → List ℕ → Reading A) (scope : Scope) (bytes rest : List ℕ) (x : A) (fault : ReadFault) → TakesFront read bytes x rest → left_of scope x rest ≡ Err fault → IsFirstBut false IsFinished (all_of read) scope bytes fault
 left_tells read scope bytes [] x fault t e = fault_no_value x fault (sym e)
 left_tells {A} read scope bytes (b ∷ rest) x fault t e = record {
   front = t.0;
@@ -60,7 +65,7 @@ left_tells {A} read scope bytes (b ∷ rest) x fault t e = record {
   there = inr (SectionSize, sym (same_fault {A = A} (fault_at SectionSize scope (b ∷ rest)) fault e), inl (λ s more. all_goes read s (t.0 ++ (b ∷ (rest ++ more))) (b ∷ (rest ++ more)) x (t.2 s (b ∷ (rest ++ more)))));
 }
 
-pub closed : {A : Type 0} (read : Scope → List ℕ → Reading A) → Tells read → Content (all_of read)
+pub closed : {A : Type 0} (read : Scope → List ℕ → Reading A) → Tells false read → Content (all_of read)
 closed {A} read r = record {
   same = λ s z bytes x e.
       let a = bind_ok (read s bytes) (λ x. left_of s x.0 x.1) x e in
@@ -71,7 +76,7 @@ closed {A} read r = record {
   tells = λ scope bytes fault e. tell scope bytes fault (bind_err (read scope bytes) (λ x. left_of scope x.0 x.1) fault e);
 }
   where
-    tell : (scope : Scope) (bytes : List ℕ) (fault : ReadFault) → ((read scope bytes ≡ Err fault) ⊎ ((a : A × List ℕ) × (read scope bytes ≡ Ok a) × (left_of scope a.0 a.1 ≡ Err fault))) → IsFirstBut IsFinished (all_of read) scope bytes fault
+    tell : (scope : Scope) (bytes : List ℕ) (fault : ReadFault) → ((read scope bytes ≡ Err fault) ⊎ ((a : A × List ℕ) × (read scope bytes ≡ Ok a) × (left_of scope a.0 a.1 ≡ Err fault))) → IsFirstBut false IsFinished (all_of read) scope bytes fault
     tell scope bytes fault (inl e) = carry IsCut IsFinished read (all_of read) [] Any (record {
       fails = λ s b d a h. all_stops read s b d h;
       ends = λ s b a h. subst (λ (x : Result A ReadFault). IsFinished s x) (sym (all_stops read s b (short_of s) h)) refl;
@@ -81,11 +86,23 @@ closed {A} read r = record {
 
 -- ---- the size
 
-abbrev pub within : Scope → List ℕ → Scope
-within s rest = record { end = s.end - length rest; short = SectionSize }
+-- what it is, in a scope, to pass the end of a part behind which nothing stands
+abbrev pub Last : Type 0
+Last = Scope → ReadKind
 
-abbrev whole_part : Scope → List ℕ → List ℕ → Inside
-whole_part s inside rest = record { scope = within s rest; content = inside; after = rest; whole = true }
+-- of a section
+abbrev pub of_section : Last
+of_section s = SectionSize
+
+-- of a body
+abbrev pub of_body : Last
+of_body s = s.short
+
+abbrev pub within : Last → Scope → List ℕ → Scope
+within last s rest = record { end = s.end - length rest; short = short_before (last s) rest }
+
+abbrev whole_part : Last → Scope → List ℕ → List ℕ → Inside
+whole_part last s inside rest = record { scope = within last s rest; content = inside; after = rest; whole = true }
 
 abbrev cut_part : Scope → List ℕ → Inside
 cut_part s content = record { scope = s; content = content; after = []; whole = false }
@@ -94,27 +111,27 @@ abbrev pub shut : {A : Type 0} → Inside → A → Reading A
 shut part x = cond part.whole (Ok (x, part.after)) (Err (short_of part.scope))
 
 -- a part whose content is read by such a reading
-abbrev pub part_at : {A : Type 0} → (Scope → List ℕ → Result A ReadFault) → Scope → List ℕ → Reading A
-part_at all s bytes = open_at s bytes >>= λ part. all part.scope part.content >>= λ x. shut part x
+abbrev pub part_at : {A : Type 0} → Last → (Scope → List ℕ → Result A ReadFault) → Scope → List ℕ → Reading A
+part_at last all s bytes = open_at (last s) s bytes >>= λ part. all part.scope part.content >>= λ x. shut part x
 
 -- bytes that spell a number, whatever follows them
 abbrev pub IsSize : List ℕ → ℕ → Type 0
 IsSize t n = (s : Scope) (rest : List ℕ) → u32_at s (t ++ rest) ≡ Ok (n, rest)
 
-pub open_fails : (s : Scope) (bytes : List ℕ) (e : ReadFault) → u32_at s bytes ≡ Err e → open_at s bytes ≡ Err e
+pub open_fails : (last : Last) (s : Scope) (bytes : List ℕ) (e : ReadFault) → u32_at s bytes ≡ Err e → open_at (last s) s bytes ≡ Err e
 unfolding open_at
-open_fails s bytes e h = rw h refl
+open_fails last s bytes e h = rw h refl
 
-open_whole : (s : Scope) (t inside rest : List ℕ) → IsSize t (length inside) → open_at s (t ++ (inside ++ rest)) ≡ Ok (whole_part s inside rest)
+open_whole : (last : Last) (s : Scope) (t inside rest : List ℕ) → IsSize t (length inside) → open_at (last s) s (t ++ (inside ++ rest)) ≡ Ok (whole_part last s inside rest)
 unfolding open_at
-open_whole s t inside rest size =
+open_whole last s t inside rest size =
     let n = size s (inside ++ rest) in
     let fits : leb (length inside) (length (inside ++ rest)) ≡ true = le-leb (length inside) (length (inside ++ rest)) (omega (arith, length-append inside rest)) in
     rw (n, fits, take_at inside rest (length inside) refl, drop_at inside rest (length inside) refl) refl
 
-open_cut : (s : Scope) (t l : List ℕ) (n : ℕ) → IsSize t n → length l < n → open_at s (t ++ l) ≡ Ok (cut_part s l)
+open_cut : (last : Last) (s : Scope) (t l : List ℕ) (n : ℕ) → IsSize t n → length l < n → open_at (last s) s (t ++ l) ≡ Ok (cut_part s l)
 unfolding open_at
-open_cut s t l n size few =
+open_cut last s t l n size few =
     let m = size s l in
     let not : leb n (length l) ≡ false = lt-leb n (length l) few in
     rw (m, not) refl
@@ -142,29 +159,29 @@ size_cases s bytes =
           ])
     ]
 
-pub whole_fails : {A : Type 0} (all : Scope → List ℕ → Result A ReadFault) (s : Scope) (t inside rest : List ℕ) → IsSize t (length inside) → (e : ReadFault) → all (within s rest) inside ≡ Err e → part_at all s (t ++ (inside ++ rest)) ≡ Err e
-whole_fails all s t inside rest size e h = let o = open_whole s t inside rest size in rw (o, h) refl
+pub whole_fails : {A : Type 0} (last : Last) (all : Scope → List ℕ → Result A ReadFault) (s : Scope) (t inside rest : List ℕ) → IsSize t (length inside) → (e : ReadFault) → all (within last s rest) inside ≡ Err e → part_at last all s (t ++ (inside ++ rest)) ≡ Err e
+whole_fails last all s t inside rest size e h = let o = open_whole last s t inside rest size in rw (o, h) refl
 
-pub whole_is : {A : Type 0} (all : Scope → List ℕ → Result A ReadFault) (s : Scope) (t inside rest : List ℕ) → IsSize t (length inside) → (x : A) → all (within s rest) inside ≡ Ok x → part_at all s (t ++ (inside ++ rest)) ≡ Ok (x, rest)
-whole_is all s t inside rest size x h = let o = open_whole s t inside rest size in rw (o, h) refl
+pub whole_is : {A : Type 0} (last : Last) (all : Scope → List ℕ → Result A ReadFault) (s : Scope) (t inside rest : List ℕ) → IsSize t (length inside) → (x : A) → all (within last s rest) inside ≡ Ok x → part_at last all s (t ++ (inside ++ rest)) ≡ Ok (x, rest)
+whole_is last all s t inside rest size x h = let o = open_whole last s t inside rest size in rw (o, h) refl
 
-pub cut_fails : {A : Type 0} (all : Scope → List ℕ → Result A ReadFault) (s : Scope) (t l : List ℕ) (n : ℕ) → IsSize t n → length l < n → (e : ReadFault) → all s l ≡ Err e → part_at all s (t ++ l) ≡ Err e
-cut_fails all s t l n size few e h = let o = open_cut s t l n size few in rw (o, h) refl
+pub cut_fails : {A : Type 0} (last : Last) (all : Scope → List ℕ → Result A ReadFault) (s : Scope) (t l : List ℕ) (n : ℕ) → IsSize t n → length l < n → (e : ReadFault) → all s l ≡ Err e → part_at last all s (t ++ l) ≡ Err e
+cut_fails last all s t l n size few e h = let o = open_cut last s t l n size few in rw (o, h) refl
 
-pub cut_short : {A : Type 0} (all : Scope → List ℕ → Result A ReadFault) (s : Scope) (t l : List ℕ) (n : ℕ) → IsSize t n → length l < n → (x : A) → all s l ≡ Ok x → part_at all s (t ++ l) ≡ Err (short_of s)
-cut_short all s t l n size few x h = let o = open_cut s t l n size few in rw (o, h) refl
+pub cut_short : {A : Type 0} (last : Last) (all : Scope → List ℕ → Result A ReadFault) (s : Scope) (t l : List ℕ) (n : ℕ) → IsSize t n → length l < n → (x : A) → all s l ≡ Ok x → part_at last all s (t ++ l) ≡ Err (short_of s)
+cut_short last all s t l n size few x h = let o = open_cut last s t l n size few in rw (o, h) refl
 
-pub cut_ends : {A : Type 0} (all : Scope → List ℕ → Result A ReadFault) (s : Scope) (t l : List ℕ) (n : ℕ) → IsSize t n → length l < n → IsFinished s (all s l) → part_at all s (t ++ l) ≡ Err (short_of s)
-cut_ends {A} all s t l n size few h =
+pub cut_ends : {A : Type 0} (last : Last) (all : Scope → List ℕ → Result A ReadFault) (s : Scope) (t l : List ℕ) (n : ℕ) → IsSize t n → length l < n → IsFinished s (all s l) → part_at last all s (t ++ l) ≡ Err (short_of s)
+cut_ends {A} last all s t l n size few h =
     elim (cases (all s l)) [
-      | inl ok ↦ cut_short all s t l n size few ok.0 ok.1
+      | inl ok ↦ cut_short last all s t l n size few ok.0 ok.1
       | inr err ↦
           (let same : err.0 ≡ short_of s = subst (λ (r : Result A ReadFault). IsFinished s r) err.1 h in
-          cut_fails all s t l n size few (short_of s) (err.1 ∙ ap (λ (e : ReadFault). failed e) same))
+          cut_fails last all s t l n size few (short_of s) (err.1 ∙ ap (λ (e : ReadFault). failed e) same))
     ]
 
-pub deeper : (kind : ReadKind) (s : Scope) (tail rest : List ℕ) → fault_at kind (within s rest) tail ≡ fault_at kind s (tail ++ rest)
-deeper kind s tail rest =
+pub deeper : (last : Last) (kind : ReadKind) (s : Scope) (tail rest : List ℕ) → fault_at kind (within last s rest) tail ≡ fault_at kind s (tail ++ rest)
+deeper last kind s tail rest =
     let place : (s.end - length rest) - length tail ≡ s.end - length (tail ++ rest) = omega (arith, length-append tail rest) in
     ap (λ (k : ℕ). at kind k) place
   where

@@ -1,5 +1,6 @@
 -- Custom sections tell their first fault, and are passed over.
 use Rattle.std.proofs.Common.{◌≡◌, ℕ, zero, suc, ◌≤◌, Bool, true, false, cond, eqb, List, [], ◌∷◌, length, Option, Some, None, Result, Ok, Err, refl, sym, ap, subst, ◌∙◌, arith, inl, inr}
+use Rattle.wasm_code.specs.declared.fault.ReadKind.TheVariants.{SectionSize}
 use Rattle.wasm_code.specs.declared.fault.ReadFault.{ReadFault}
 use Rattle.wasm_code.specs.declared.scope.Scope.{Scope}
 use Rattle.wasm_code.specs.Reading.{Reading, ◌>>=◌, short_of}
@@ -12,8 +13,8 @@ use Rattle.wasm_reader.proofs.Loops.{customs_go, customs_stop}
 use Rattle.wasm_reader.proofs.ExactSections.{next_some, custom_takes, found}
 use Rattle.wasm_reader.proofs.FirstParts.{name_reads}
 use Rattle.wasm_reader.proofs.FirstCarried.{given, same_fault, fault_no_value, Any, any, carry, Tells, tells_plainly}
-use Rattle.wasm_reader.proofs.FirstContent.{IsFinished, Content, shut, part_at}
-use Rattle.wasm_reader.proofs.FirstSized.{part_reads}
+use Rattle.wasm_reader.proofs.FirstContent.{IsFinished, Content, of_section, shut, part_at}
+use Rattle.wasm_reader.proofs.FirstSized.{section_end, part_reads}
 
 -- ---- custom sections
 
@@ -44,8 +45,8 @@ named_content = record {
       ];
 }
 
-pub custom_tells : Tells (part_at named)
-custom_tells = part_reads named named_content
+pub custom_tells : Tells true (part_at of_section named)
+custom_tells = part_reads true of_section named (section_end named) named_content
 
 custom_closes : (part : Inside) (r : Reading (List ℕ)) → (r >>= λ name. close_at part []) ≡ (((r >>= λ n. Ok n.0) >>= λ x. shut part x) >>= λ y. given y.1)
 unfolding close_at
@@ -60,18 +61,18 @@ custom_parts : (o : Result Inside ReadFault) → (o >>= λ part. name_at part.sc
 custom_parts (Ok part) = custom_closes part (name_at part.scope part.content)
 custom_parts (Err e) = refl
 
-custom_is : (s : Scope) (bytes : List ℕ) → custom_at s bytes ≡ (part_at named s bytes >>= λ y. given y.1)
+custom_is : (s : Scope) (bytes : List ℕ) → custom_at s bytes ≡ (part_at of_section named s bytes >>= λ y. given y.1)
 unfolding custom_at
-custom_is s bytes = custom_parts (open_at s bytes)
+custom_is s bytes = custom_parts (open_at SectionSize s bytes)
 
-pub custom_fails : (s : Scope) (bytes : List ℕ) (e : ReadFault) → part_at named s bytes ≡ Err e → custom_at s bytes ≡ Err e
+pub custom_fails : (s : Scope) (bytes : List ℕ) (e : ReadFault) → part_at of_section named s bytes ≡ Err e → custom_at s bytes ≡ Err e
 custom_fails s bytes e h =
-    let one : (part_at named s bytes >>= λ y. given y.1) ≡ Err e = rw h refl in
+    let one : (part_at of_section named s bytes >>= λ y. given y.1) ≡ Err e = rw h refl in
     custom_is s bytes ∙ one
 
-pub custom_goes : (s : Scope) (bytes after x : List ℕ) → part_at named s bytes ≡ Ok (x, after) → custom_at s bytes ≡ Ok after
+pub custom_goes : (s : Scope) (bytes after x : List ℕ) → part_at of_section named s bytes ≡ Ok (x, after) → custom_at s bytes ≡ Ok after
 custom_goes s bytes after x h =
-    let one : (part_at named s bytes >>= λ y. given y.1) ≡ Ok after = rw h refl in
+    let one : (part_at of_section named s bytes >>= λ y. given y.1) ≡ Ok after = rw h refl in
     custom_is s bytes ∙ one
 
 -- ---- all custom sections that stand here

@@ -1,5 +1,5 @@
 -- A module tells its first fault.
-use Rattle.std.proofs.Common.{◌≡◌, ℕ, ◌-◌, ◌<◌, ◌≤◌, ◌&&◌, min, eqb, ltb, List, [], ◌∷◌, ◌++◌, length, None, Result, Ok, Err, refl, sym, ap, subst, ◌∙◌, arith, ◌⊎◌, inl, inr, append_assoc}
+use Rattle.std.proofs.Common.{◌≡◌, ℕ, ◌-◌, ◌<◌, ◌≤◌, ◌&&◌, true, min, eqb, ltb, List, [], ◌∷◌, ◌++◌, length, None, Result, Ok, Err, refl, sym, ap, subst, ◌∙◌, arith, ◌⊎◌, inl, inr, append_assoc}
 use Rattle.std.proofs.lemmas.Bool.{cases_Bool, ltb-true, ltb-false, lt-ltb, le-ltb}
 use Rattle.std.proofs.lemmas.List.{append-nil, length-append}
 use Rattle.wasm_types.specs.declared.modules.Module.{Module}
@@ -13,7 +13,7 @@ use Rattle.wasm_code.proofs.FirstInstructions.{vector_reads}
 use Rattle.wasm_reader.specs.Grammar.{IsModule}
 use Rattle.wasm_reader.specs.Reading.{func_type_at, import_at, table_at, memory_at, global_at, export_at, start_at, element_at, segment_at}
 use Rattle.wasm_reader.specs.Sections.{code_section_at, magic_at, version_at, end_at, sections_at, whole_at, module_at}
-use Rattle.wasm_reader.specs.FirstFault.{IsUnfinished, IsOutgrown, IsNotMended, IsCutCount, IsFirstBut, TellsFirstBut, EndsAt, StillTells, IsFirstFault}
+use Rattle.wasm_reader.specs.FirstFault.{IsUnfinished, IsOutgrown, IsNotMended, IsCutCount, IsFirstBut, SectionsTellFirst, EndsAt, StillTells, IsFirstFault}
 use Rattle.wasm_reader.proofs.ExactModule.{module_complete}
 use Rattle.wasm_reader.proofs.FirstParts.{func_type_reads, import_reads, table_reads, memory_reads, global_reads, export_reads, start_reads, element_reads, segment_reads}
 use Rattle.wasm_reader.proofs.FirstCarried.{failed, same_fault, fault_no_value, Any, any, carry, tells_plainly}
@@ -103,7 +103,7 @@ sections_chain = chain_1 empty
 
 -- ---- the header
 
-cut_here : (read : Scope → List ℕ → Result Module ReadFault) (bytes : List ℕ) → ((s : Scope) → read s bytes ≡ Err (short_of s)) → (scope : Scope) (fault : ReadFault) → read scope bytes ≡ Err fault → IsFirstBut IsUnfinished read scope bytes fault
+cut_here : (read : Scope → List ℕ → Result Module ReadFault) (bytes : List ℕ) → ((s : Scope) → read s bytes ≡ Err (short_of s)) → (scope : Scope) (fault : ReadFault) → read scope bytes ≡ Err fault → IsFirstBut true IsUnfinished read scope bytes fault
 cut_here read bytes cut scope fault e = record {
   front = bytes;
   tail = [];
@@ -112,7 +112,7 @@ cut_here read bytes cut scope fault e = record {
   there = inl (refl, inl (same_fault {A = Module} fault (short_of scope) (sym e ∙ cut scope)));
 }
 
-wrong_here : (read : Scope → List ℕ → Result Module ReadFault) (kind : ReadKind) (bytes : List ℕ) → ((s : Scope) → read s [] ≡ Err (short_of s)) → ((s : Scope) (more : List ℕ) → read s (bytes ++ more) ≡ Err (fault_at kind s (bytes ++ more))) → (scope : Scope) (fault : ReadFault) → read scope bytes ≡ Err fault → IsFirstBut IsUnfinished read scope bytes fault
+wrong_here : (read : Scope → List ℕ → Result Module ReadFault) (kind : ReadKind) (bytes : List ℕ) → ((s : Scope) → read s [] ≡ Err (short_of s)) → ((s : Scope) (more : List ℕ) → read s (bytes ++ more) ≡ Err (fault_at kind s (bytes ++ more))) → (scope : Scope) (fault : ReadFault) → read scope bytes ≡ Err fault → IsFirstBut true IsUnfinished read scope bytes fault
 wrong_here read kind bytes none wrong scope fault e =
     let here : read scope bytes ≡ Err (fault_at kind scope bytes) = ap (read scope) (sym (append-nil bytes)) ∙ wrong scope [] ∙ ap (λ (l : List ℕ). failed {A = Module} (fault_at kind scope l)) (append-nil bytes) in
     record {
@@ -123,7 +123,7 @@ wrong_here read kind bytes none wrong scope fault e =
       there = inr (kind, same_fault {A = Module} fault (fault_at kind scope bytes) (sym e ∙ here), inl wrong);
     }
 
-passed_here : (next whole : Scope → List ℕ → Result Module ReadFault) (taken : List ℕ) → ((s : Scope) (bytes : List ℕ) → whole s (taken ++ bytes) ≡ next s bytes) → TellsFirstBut IsUnfinished next → (scope : Scope) (bytes : List ℕ) (fault : ReadFault) → whole scope (taken ++ bytes) ≡ Err fault → IsFirstBut IsUnfinished whole scope (taken ++ bytes) fault
+passed_here : (next whole : Scope → List ℕ → Result Module ReadFault) (taken : List ℕ) → ((s : Scope) (bytes : List ℕ) → whole s (taken ++ bytes) ≡ next s bytes) → SectionsTellFirst IsUnfinished next → (scope : Scope) (bytes : List ℕ) (fault : ReadFault) → whole scope (taken ++ bytes) ≡ Err fault → IsFirstBut true IsUnfinished whole scope (taken ++ bytes) fault
 passed_here next whole taken same tells scope bytes fault e = carry IsUnfinished IsUnfinished next whole taken Any (record {
   fails = λ s l d a h. same s l ∙ h;
   ends = λ s l a h. unfinished_as s (whole s (taken ++ l)) (next s l) (same s l) h;
@@ -133,7 +133,7 @@ passed_here next whole taken same tells scope bytes fault e = carry IsUnfinished
 abbrev versioned : Scope → List ℕ → Result Module ReadFault
 versioned s bytes = version_at s bytes >>= λ start. sections_at s start
 
-version_tells : TellsFirstBut IsUnfinished versioned
+version_tells : SectionsTellFirst IsUnfinished versioned
 unfolding version_at
 version_tells scope [] fault e = cut_here versioned [] (λ s. refl) scope fault e
 version_tells scope (a ∷ []) fault e = cut_here versioned (a ∷ []) (λ s. refl) scope fault e
@@ -145,7 +145,7 @@ version_tells scope (a ∷ b ∷ c ∷ d ∷ bytes) fault e =
       | inr wrong ↦ wrong_here versioned BadVersion (a ∷ b ∷ c ∷ d ∷ bytes) (λ s. refl) (λ s more. rw wrong refl) scope fault e
     ]
 
-whole_tells : TellsFirstBut IsUnfinished whole_at
+whole_tells : SectionsTellFirst IsUnfinished whole_at
 unfolding whole_at magic_at
 whole_tells scope [] fault e = cut_here whole_at [] (λ s. refl) scope fault e
 whole_tells scope (a ∷ []) fault e = cut_here whole_at (a ∷ []) (λ s. refl) scope fault e
@@ -227,7 +227,7 @@ first_large bytes fault many e =
     }
 
 first_small : (front tail : List ℕ) (fault : ReadFault) → length (front ++ tail) ≤ 16777216
-    → (((s : Scope) → IsUnfinished s (whole_at s front)) ⊎ ((fault.kind ≡ SectionSize) × IsOutgrown whole_at front))
+    → (((s : Scope) → IsUnfinished s (whole_at s front)) ⊎ IsOutgrown whole_at fault front)
     → (((tail ≡ []) × IsUnfinished (scope_of (length (front ++ tail))) (Err fault)) ⊎ ((kind : ReadKind) × (fault ≡ fault_at kind (scope_of (length (front ++ tail))) tail) × (IsNotMended whole_at kind front tail ⊎ IsCutCount whole_at kind front tail)))
     → IsFirstFault (front ++ tail) fault
 first_small front tail fault few before there = record { front = front; tail = tail; parts = refl; place = place there; before = prior before; there = at_place there }
@@ -242,7 +242,7 @@ first_small front tail fault few before there = record { front = front; tail = t
     place (inl end) = (at_end (length (front ++ tail)) fault few end.1).1 ∙ end_place end.0
     place (inr told) = ap (λ (f : ReadFault). f.place) (told.1 ∙ place_of told.0 front tail few)
 
-    prior : (((s : Scope) → IsUnfinished s (whole_at s front)) ⊎ ((fault.kind ≡ SectionSize) × IsOutgrown whole_at front)) → (EndsAt (length front) (module_at front) ⊎ ((fault.kind ≡ SectionSize) × (module_at front ≡ Err fault)))
+    prior : (((s : Scope) → IsUnfinished s (whole_at s front)) ⊎ IsOutgrown whole_at fault front) → (EndsAt (length front) (module_at front) ⊎ ((fault.kind ≡ SectionSize) × (module_at front ≡ Err fault)))
     prior (inl right) = inl (subst (λ (r : Result Module ReadFault). EndsAt (length front) r) (sym (module_small front few_front)) (ends_at (length front) (whole_at (scope_of (length front)) front) few_front (right (scope_of (length front)))))
     prior (inr grown) =
         let told : fault ≡ fault_of SectionSize (length front) = ap (λ (k : ReadKind). fault_of k fault.place) grown.0 ∙ ap (λ (k : ℕ). fault_of SectionSize k) (place there) in
@@ -276,7 +276,7 @@ first_small front tail fault few before there = record { front = front; tail = t
     at_place (inr told) = inr (still told.0 told.1 told.2, λ more m h. still_none fault tail ((front ++ tail) ++ more) m (still told.0 told.1 told.2 more) h)
 
 first_parts : (bytes front tail : List ℕ) (fault : ReadFault) → length bytes ≤ 16777216 → bytes ≡ front ++ tail
-    → (((s : Scope) → IsUnfinished s (whole_at s front)) ⊎ ((fault.kind ≡ SectionSize) × IsOutgrown whole_at front))
+    → (((s : Scope) → IsUnfinished s (whole_at s front)) ⊎ IsOutgrown whole_at fault front)
     → (((tail ≡ []) × IsUnfinished (scope_of (length bytes)) (Err fault)) ⊎ ((kind : ReadKind) × (fault ≡ fault_at kind (scope_of (length bytes)) tail) × (IsNotMended whole_at kind front tail ⊎ IsCutCount whole_at kind front tail)))
     → IsFirstFault bytes fault
 first_parts bytes front tail fault few parts before there =

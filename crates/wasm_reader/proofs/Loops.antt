@@ -61,12 +61,12 @@ locals_done params before scope bytes = refl
 
 -- ---- bodies
 
-pub bodies_go : (types : List FuncType) (functions : List ℕ) (index most : ℕ) (scope : Scope) (front : List Code) (bytes after : List ℕ) (body : Code) → sized_at (body_at (params_of types functions index)) scope bytes ≡ Ok (body, after)
+pub bodies_go : (types : List FuncType) (functions : List ℕ) (index most : ℕ) (scope : Scope) (front : List Code) (bytes after : List ℕ) (body : Code) → sized_at scope.short (body_at (params_of types functions index)) scope bytes ≡ Ok (body, after)
     → with_front front (bodies_at types functions index (suc most) scope bytes) ≡ with_front (front ++ body ∷ []) (bodies_at types functions (suc index) most scope after)
 unfolding bodies_at
 bodies_go types functions index most scope front bytes after body e = rw e (regroup front body (bodies_at types functions (suc index) most scope after))
 
-pub bodies_fail : (types : List FuncType) (functions : List ℕ) (index most : ℕ) (scope : Scope) (front : List Code) (bytes : List ℕ) (e : Stop ReadFault) (total : Reading (List Code)) → Fails e (sized_at (body_at (params_of types functions index)) scope bytes)
+pub bodies_fail : (types : List FuncType) (functions : List ℕ) (index most : ℕ) (scope : Scope) (front : List Code) (bytes : List ℕ) (e : Stop ReadFault) (total : Reading (List Code)) → Fails e (sized_at scope.short (body_at (params_of types functions index)) scope bytes)
     → with_front front (bodies_at types functions index (suc most) scope bytes) ≡ total → Fails e total
 unfolding bodies_at
 bodies_fail types functions index most scope front bytes stops.Memory total read so_far = tt

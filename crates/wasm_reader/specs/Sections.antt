@@ -24,12 +24,17 @@ pub record Inside : Type 0 where
   pub after : List ℕ
   pub whole : Bool
 
-unfoldable pub open_at : Scope → List ℕ → Result Inside ReadFault
-open_at scope bytes =
+-- what it is to pass the end of a part behind which these bytes stand; last is what it is where none do
+abbrev pub short_before : ReadKind → List ℕ → ReadKind
+short_before last [] = last
+short_before last (b ∷ rest) = SectionSize
+
+unfoldable pub open_at : ReadKind → Scope → List ℕ → Result Inside ReadFault
+open_at last scope bytes =
     u32_at scope bytes >>= λ size.
     if nat_le size.0 (length size.1)
     then Ok (record {
-      scope = record { end = scope.end - length (drop size.0 size.1); short = SectionSize };
+      scope = record { end = scope.end - length (drop size.0 size.1); short = short_before last (drop size.0 size.1) };
       content = take size.0 size.1;
       after = drop size.0 size.1;
       whole = true;
@@ -41,9 +46,9 @@ unfoldable pub close_at : Inside → List ℕ → Result (List ℕ) ReadFault
 close_at part [] = if part.whole then Ok part.after else Err (short_of part.scope)
 close_at part (b ∷ rest) = Err (fault_at SectionSize part.scope (b ∷ rest))
 
-unfoldable pub sized_at : {A : Type 0} → (Scope → List ℕ → Reading A) → Scope → List ℕ → Reading A
-sized_at content scope bytes =
-    open_at scope bytes >>= λ part.
+unfoldable pub sized_at : {A : Type 0} → ReadKind → (Scope → List ℕ → Reading A) → Scope → List ℕ → Reading A
+sized_at last content scope bytes =
+    open_at last scope bytes >>= λ part.
     content part.scope part.content >>= λ x.
     close_at part x.1 >>= λ after.
     Ok (x.0, after)
@@ -84,11 +89,12 @@ body_at params scope bytes =
     expression_at scope locals.1 >>= λ code.
     Ok (record { locals = locals.0; body = code.0 }, code.1)
 
--- the code of so many functions from an index on
+-- the code of so many functions from an index on; to pass the end of a body that ends where its section does, or where
+-- the bytes of a section do that is cut off, is to pass that end
 unfoldable pub bodies_at : List FuncType → List ℕ → ℕ → ℕ → Scope → List ℕ → Reading (List Code)
 bodies_at types functions index zero scope bytes = Ok ([], bytes)
 bodies_at types functions index (suc n) scope bytes =
-    sized_at (body_at (params_of types functions index)) scope bytes >>= λ first.
+    sized_at scope.short (body_at (params_of types functions index)) scope bytes >>= λ first.
     bodies_at types functions (suc index) n scope first.1 >>= λ others.
     Ok (first.0 ∷ others.0, others.1)
 
@@ -99,7 +105,7 @@ code_section_at types functions scope bytes = count_at 65536 scope bytes >>= λ 
 
 -- a custom section behind its number: its name is read, the rest passed over
 unfoldable pub custom_at : Scope → List ℕ → Result (List ℕ) ReadFault
-custom_at scope bytes = open_at scope bytes >>= λ part. name_at part.scope part.content >>= λ name. close_at part []
+custom_at scope bytes = open_at SectionSize scope bytes >>= λ part. name_at part.scope part.content >>= λ name. close_at part []
 
 -- what follows the custom section that stands here, if one does
 unfoldable pub next_custom_at : Scope → List ℕ → Result (Option (List ℕ)) ReadFault
@@ -117,7 +123,7 @@ customs_at scope bytes = customs_from (length bytes) scope bytes
 -- a section that may be left out
 unfoldable pub optional_at : {A : Type 0} → ℕ → A → (Scope → List ℕ → Reading A) → Scope → List ℕ → Reading A
 optional_at id none content scope [] = Ok (none, [])
-optional_at id none content scope (b ∷ rest) = if b == id then sized_at content scope rest else Ok (none, b ∷ rest)
+optional_at id none content scope (b ∷ rest) = if b == id then sized_at SectionSize content scope rest else Ok (none, b ∷ rest)
 
 unfoldable pub section_at : {A : Type 0} → ℕ → A → (Scope → List ℕ → Reading A) → Scope → List ℕ → Reading A
 section_at id none content scope bytes = customs_at scope bytes >>= λ rest. optional_at id none content scope rest

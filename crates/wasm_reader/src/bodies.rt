@@ -170,7 +170,7 @@ fn read_bodies<'a>(
     let mut rest = bytes;
     for index in 0..count {
         let params = params_of(types, functions, index as usize);
-        let (body, after) = read_sized(&Body { params }, alloc, scope, rest)?;
+        let (body, after) = read_sized(scope.short, &Body { params }, alloc, scope, rest)?;
         bodies.push(body)?;
         rest = after;
     }

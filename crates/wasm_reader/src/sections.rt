@@ -3,7 +3,7 @@
 ghost use Rattle.std.specs.Prelude.{◌≡◌};
 ghost use Rattle.std.specs.Option.{option_map};
 ghost use Rattle.wasm_code.specs.Reading.{Gives};
-ghost use Rattle.wasm_reader.specs.Sections.{open_at, close_at, sized_at, custom_at, next_custom_at, customs_at, optional_at, section_at};
+ghost use Rattle.wasm_reader.specs.Sections.{short_before, open_at, close_at, sized_at, custom_at, next_custom_at, customs_at, optional_at, section_at};
 ghost use Rattle.wasm_reader.specs.Parts.{inside_of};
 
 use crate::names::name_of;
@@ -20,19 +20,27 @@ struct Part<'a> {
     whole: bool,
 }
 
+// What it is to pass the end of a part behind which these bytes stand, if it is `last` where none do.
+fn short_before(last: ReadKind, after: &[u8]) -> ReadKind
+    ensures { result ≡ short_before last after.now }
+{
+    match after {
+        [] => last,
+        [_, ..] => ReadKind::SectionSize,
+    }
+}
+
 #[tactic(auto, unfolding(crate::specs::Sections::open_at))]
-fn open_part(scope: Scope, bytes: &[u8]) -> Result<Part<'_>, Stop>
-    ensures { Gives (λ x. inside_of x) result (open_at scope bytes.now) }
+fn open_part(last: ReadKind, scope: Scope, bytes: &[u8]) -> Result<Part<'_>, Stop>
+    ensures { Gives (λ x. inside_of x) result (open_at last scope bytes.now) }
 {
     let (size, rest) = read_u32(scope, bytes)?;
     let size = size as usize;
     if size <= rest.len() {
         let (content, after) = rest.split_at(size);
         let end = scope.end.saturating_sub(after.len());
-        let scope = Scope {
-            end,
-            short: ReadKind::SectionSize,
-        };
+        let short = short_before(last, after);
+        let scope = Scope { end, short };
         return Ok(Part {
             scope,
             content,
@@ -64,17 +72,18 @@ fn close_part<'a>(part: &Part<'a>, rest: &[u8]) -> Result<&'a [u8], Stop>
     }
 }
 
-/// A size, and so many bytes that hold the value.
+/// A size, and so many bytes that hold the value. To pass their end is `last` where nothing stands behind them.
 #[tactic(auto, unfolding(crate::specs::Sections::sized_at))]
 pub(crate) fn read_sized<'a, F: Field>(
+    last: ReadKind,
     content: &F,
     alloc: Global,
     scope: Scope,
     bytes: &'a [u8],
 ) -> Result<(F::Item, &'a [u8]), Stop>
-    ensures { Gives (λ x. (x.0, x.1.now)) result (sized_at (F.reading content.now) scope bytes.now) }
+    ensures { Gives (λ x. (x.0, x.1.now)) result (sized_at last (F.reading content.now) scope bytes.now) }
 {
-    let part = open_part(scope, bytes)?;
+    let part = open_part(last, scope, bytes)?;
     let (value, rest) = content.read(alloc, part.scope, part.content)?;
     let after = close_part(&part, rest)?;
     Ok((value, after))
@@ -85,7 +94,7 @@ pub(crate) fn read_sized<'a, F: Field>(
 fn skip_custom(scope: Scope, bytes: &[u8]) -> Result<&[u8], Stop>
     ensures { Gives (λ x. x.now) result (custom_at scope bytes.now) }
 {
-    let part = open_part(scope, bytes)?;
+    let part = open_part(ReadKind::SectionSize, scope, bytes)?;
     let (_, _) = name_of(part.scope, part.content)?;
     close_part(&part, &[])
 }
@@ -135,7 +144,7 @@ fn read_optional<'a, F: Field>(
         [] => Ok((none, bytes)),
         [first, rest @ ..] => {
             if *first == id {
-                return read_sized(content, alloc, scope, rest);
+                return read_sized(ReadKind::SectionSize, content, alloc, scope, rest);
             }
             Ok((none, bytes))
         }

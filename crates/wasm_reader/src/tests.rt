@@ -77,7 +77,7 @@ fn each_cut_of_a_module(rt: HostRuntime) {
 #[test]
 fn faults_and_their_places(rt: HostRuntime) -> Result<(), Fail> {
     use ReadKind::*;
-    let cases: [(usize, &[u8], (Option<ReadKind>, u32)); 22] = [
+    let cases: [(usize, &[u8], (Option<ReadKind>, u32)); 31] = [
         (
             0,
             &[0x00, 0x61, 0x73, 0x6E, 0x01, 0x00],
@@ -100,10 +100,54 @@ fn faults_and_their_places(rt: HostRuntime) -> Result<(), Fail> {
             (Some(FloatUsed), 35),
         ),
         (36, &[0x00], (Some(Truncated), 37)),
+        // a section past the end of the bytes, with a body that ends before, there and past it
+        (
+            30,
+            &[0x0A, 0x05, 0x01, 0x01, 0x00, 0x0B],
+            (Some(SectionSize), 35),
+        ),
+        (30, &[0x0A, 0x03, 0x01, 0x00], (Some(Truncated), 34)),
+        (
+            30,
+            &[0x0A, 0x05, 0x01, 0x02, 0x00, 0x01],
+            (Some(Truncated), 36),
+        ),
         (
             30,
             &[0x0A, 0x05, 0x01, 0x02, 0x00, 0x0B],
             (Some(Truncated), 36),
+        ),
+        (
+            30,
+            &[0x0A, 0x05, 0x01, 0x03, 0x00, 0x01],
+            (Some(Truncated), 36),
+        ),
+        (
+            30,
+            &[0x0A, 0x08, 0x01, 0x02, 0x00, 0x0B, 0x0B],
+            (Some(SectionSize), 36),
+        ),
+        // a section that ends with the bytes, with a body that ends there, and past it
+        (
+            30,
+            &[0x0A, 0x04, 0x01, 0x02, 0x00, 0x01],
+            (Some(SectionSize), 36),
+        ),
+        (
+            30,
+            &[0x0A, 0x04, 0x01, 0x03, 0x00, 0x0B],
+            (Some(SectionSize), 36),
+        ),
+        (
+            30,
+            &[0x0A, 0x05, 0x01, 0x04, 0x00, 0x0B, 0x0B],
+            (Some(SectionSize), 36),
+        ),
+        // a body past its section, where the bytes go on
+        (
+            30,
+            &[0x0A, 0x04, 0x01, 0x04, 0x00, 0x01, 0x01, 0x0B],
+            (Some(SectionSize), 36),
         ),
         (
             30,

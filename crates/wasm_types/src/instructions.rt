@@ -6,7 +6,7 @@ use items::Items;
 ///
 /// Indices are those of the module's functions, types, globals and the function's locals; a label counts
 /// blocks from the innermost one. `align` is the exponent of a power of two.
-#[derive(Clone, Debug, Drop, PartialEq, Eq)]
+#[derive(Debug, Drop, PartialEq, Eq)]
 pub enum Instr {
     Unreachable,
     Nop,

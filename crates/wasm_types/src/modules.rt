@@ -3,7 +3,7 @@ use crate::types::{FuncType, GlobalType, Limits, ValueType};
 use items::Items;
 
 /// A module (section 2.5). Indices of functions, tables, memories and globals count the imported ones first.
-#[derive(Clone, Debug, Drop, PartialEq, Eq)]
+#[derive(Debug, Drop, PartialEq, Eq)]
 pub struct Module {
     pub types: Items<FuncType>,
     pub imports: Items<Import>,
@@ -20,7 +20,7 @@ pub struct Module {
 }
 
 /// An import (section 2.5.11). Both names are UTF-8.
-#[derive(Clone, Debug, Drop, PartialEq, Eq)]
+#[derive(Debug, Drop, PartialEq, Eq)]
 pub struct Import {
     pub module: Items<u8>,
     pub name: Items<u8>,
@@ -37,7 +37,7 @@ pub enum ImportKind {
 }
 
 /// A global that the module defines, with the expression of its first value (section 2.5.6).
-#[derive(Clone, Debug, Drop, PartialEq, Eq)]
+#[derive(Debug, Drop, PartialEq, Eq)]
 pub struct GlobalItem {
     pub kind: GlobalType,
     pub start: Items<Instr>,
@@ -52,7 +52,7 @@ pub enum ExportKind {
 }
 
 /// An export (section 2.5.10). The name is UTF-8.
-#[derive(Clone, Debug, Drop, PartialEq, Eq)]
+#[derive(Debug, Drop, PartialEq, Eq)]
 pub struct Export {
     pub name: Items<u8>,
     pub kind: ExportKind,
@@ -60,7 +60,7 @@ pub struct Export {
 }
 
 /// Functions that stand in a table from an offset on when the module starts (section 2.5.7).
-#[derive(Clone, Debug, Drop, PartialEq, Eq)]
+#[derive(Debug, Drop, PartialEq, Eq)]
 pub struct Element {
     pub table: u32,
     pub offset: Items<Instr>,
@@ -68,14 +68,14 @@ pub struct Element {
 }
 
 /// What a function does (section 2.5.3). `locals` has one item per local; parameters aren't among them.
-#[derive(Clone, Debug, Drop, PartialEq, Eq)]
+#[derive(Debug, Drop, PartialEq, Eq)]
 pub struct Code {
     pub locals: Items<ValueType>,
     pub body: Items<Instr>,
 }
 
 /// Bytes that stand in a memory from an offset on when the module starts (section 2.5.8).
-#[derive(Clone, Debug, Drop, PartialEq, Eq)]
+#[derive(Debug, Drop, PartialEq, Eq)]
 pub struct Segment {
     pub memory: u32,
     pub offset: Items<Instr>,

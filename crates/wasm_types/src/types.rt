@@ -8,7 +8,7 @@ pub enum ValueType {
 }
 
 /// The type of a function (section 2.3.3), which has one result at most (section 2.3.2).
-#[derive(Clone, Debug, Drop, PartialEq, Eq)]
+#[derive(Debug, Drop, PartialEq, Eq)]
 pub struct FuncType {
     pub params: Items<ValueType>,
     pub result: Option<ValueType>,
