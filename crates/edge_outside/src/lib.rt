@@ -1,4 +1,5 @@
-//! What the host meets outside of itself: the files that it reads, the sink that it writes to, the links to backends.
+//! What the host meets outside of itself: the files that it reads, the source that it reads piece by piece, the sink
+//! that it writes to, the links to backends.
 //!
 //! Each is a trait with a count of faults that never falls: an answer `Failed` comes only where the count rose in that
 //! call. A ghost relation for each call says that this call was made, with this answer, whichever object it is, so that a
@@ -13,19 +14,23 @@ mod files;
 mod link;
 mod mem_files;
 mod mem_sink;
+mod mem_source;
 mod no_link;
 mod null_sink;
 mod plan;
 mod sink;
+mod source;
 
 pub use fault::{Failed, IoFault};
 pub use files::Files;
 pub use link::Link;
 pub use mem_files::{MemFiles, NamedFile};
 pub use mem_sink::MemSink;
+pub use mem_source::MemSource;
 pub use no_link::NoLink;
 pub use null_sink::NullSink;
 pub use sink::Sink;
+pub use source::Source;
 
 #[cfg(test)]
 mod tests;
