@@ -8,6 +8,4 @@ pub mod Transactions
 pub mod Answer
 pub mod Legal
 pub mod Step
-pub mod Rows
-pub mod AgedRows
 pub mod Laws

@@ -13,11 +13,7 @@ mod limits;
 mod octets;
 mod one_cache;
 mod outer;
-#[cfg(test)]
-mod relying;
 mod replies;
-#[cfg(test)]
-mod rows;
 mod rule;
 
 pub use calls::{CacheCall, Field, Fields, Terms, Writing};

@@ -18,6 +18,3 @@ pub use linked::{Linked, link};
 pub use linking::links_of;
 pub use links::{LinkRefusal, Links};
 pub use table::Row;
-
-#[cfg(test)]
-mod tests;

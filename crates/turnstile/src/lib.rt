@@ -17,6 +17,3 @@ mod view;
 
 pub use standing::{Kept, Standing};
 pub use turnstile::{Busy, Pass, Turnstile};
-
-#[cfg(test)]
-mod tests;

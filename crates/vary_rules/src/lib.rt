@@ -10,6 +10,3 @@ mod variant;
 pub use fault::RuleFault;
 pub use rule::read_rule;
 pub use variant::variant_of;
-
-#[cfg(test)]
-mod tests;

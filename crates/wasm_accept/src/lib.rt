@@ -6,6 +6,3 @@
 mod accepting;
 
 pub use accepting::{Refusal, accept};
-
-#[cfg(test)]
-mod tests;

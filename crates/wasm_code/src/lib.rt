@@ -23,6 +23,3 @@ pub use laws::{expressions_tell_first, numbers_tell_first};
 pub use numbers::{read_count, read_s32, read_s64, read_u32};
 pub use scope::{Scope, fault_at, short_of};
 pub use vectors::{Field, Index, Vector, read_vector};
-
-#[cfg(test)]
-mod tests;

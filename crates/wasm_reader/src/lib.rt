@@ -19,6 +19,3 @@ mod types;
 pub use laws::{parts_tell_first, sections_tell_first, spells_one_module};
 pub use module::read_module;
 pub use wasm_code::{ReadFault, ReadKind};
-
-#[cfg(test)]
-mod tests;

@@ -19,6 +19,3 @@ pub use modules::{
 };
 pub use types::{FuncType, GlobalType, Limits, ValueType};
 pub use values::{TrapKind, Value, Values};
-
-#[cfg(test)]
-mod tests;

@@ -21,6 +21,3 @@ mod types;
 mod vectors;
 
 pub use module::write_module;
-
-#[cfg(test)]
-mod tests;

@@ -1,6 +1,6 @@
 //! Two tables of labels, compared.
-use super::*;
 use std::test::Fail;
+use wasm_types::*;
 
 #[test]
 fn a_table_of_labels(rt: HostRuntime) -> Result<(), Fail> {

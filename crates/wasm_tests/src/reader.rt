@@ -1,7 +1,7 @@
 //! Modules whose bytes or faults come from outside the reader.
 
-use super::*;
 use std::test::Fail;
+use wasm_reader::*;
 use wasm_types::Module;
 
 // One type, one function, its export and its code: 36 bytes.

@@ -1,10 +1,10 @@
 //! Modules that are read and written again. The bytes that are wanted are those that wat2wasm of wabt 1.0.32 writes.
 
-use super::build::*;
-use super::*;
 use std::test::Fail;
 use wasm_reader::read_module;
 use wasm_types::{Instr, Items, Module, Value, ValueType};
+use wasm_writer::build::*;
+use wasm_writer::*;
 
 // Modules and the bytes that are wanted of them, behind the magic and the version.
 const ROWS: [(&str, &str); 7] = [

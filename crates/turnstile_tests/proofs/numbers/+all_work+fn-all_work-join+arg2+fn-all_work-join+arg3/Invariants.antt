@@ -1,5 +1,5 @@
 use Rattle.std.proofs.Common.{◌+◌, ◌*◌}
-use Rattle.turnstile.proofs.tests.+all_work+fn-all_work-join+arg2+fn-all_work-join+arg3.Given as goal
+use Rattle.turnstile_tests.proofs.numbers.+all_work+fn-all_work-join+arg2+fn-all_work-join+arg3.Given as goal
 
 abbrev pub decreases-all_work : goal.decreases-all_work
 decreases-all_work g l = 2 * l.callers

@@ -1,9 +1,9 @@
 //! Texts with the rules that they name, or their faults; variants.
 
-use super::*;
 use cache_types::Rule;
 use std::alloc::AllocError;
 use std::test::Fail;
+use vary_rules::*;
 
 /// The names of a rule, each behind a space.
 fn spelled(rt: &HostRuntime, rule: &Rule) -> Result<Vec<u8>, AllocError> {

@@ -1,7 +1,7 @@
 //! Modules as another tool wrote them, and their faults. Of each, wasm-validate of wabt 1.0.32 says whether it is valid.
 
-use super::*;
 use std::test::Fail;
+use wasm_accept::*;
 
 mod index_rows;
 mod never_reached_rows;

@@ -6,13 +6,13 @@ ghost use Rattle.turnstile.specs.Rule.{all_parts};
 ghost use Rattle.turnstile.specs.Standing.{MayJoin};
 ghost use Rattle.turnstile.specs.Pass.{IsOf, IsSamePass};
 
-use super::*;
 use std::alloc::Global;
 use std::sync::Wait;
 use std::sync::atomic::{AtomicBool, Ordering};
 use std::test::Fail;
 use std::thread;
 use std::thread::Threads;
+use turnstile::*;
 
 // How often a thread looks whether another has come to a place.
 const TURNS: u32 = 10_000_000;

@@ -1,5 +1,5 @@
-use super::*;
 use std::test::Fail;
+use wasm_code::*;
 use wasm_types::Instr;
 
 // Whether an expression is read from these bytes, behind one other byte, and if not, what the fault is.

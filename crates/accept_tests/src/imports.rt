@@ -1,6 +1,6 @@
 //! Imports that are found and refused, with their texts.
 
-use crate::{Hostcall, LinkRefusal, call_named, links_of};
+use edge_imports::{Hostcall, LinkRefusal, call_named, links_of};
 use std::alloc::AllocError;
 use std::test::Fail;
 use wasm_types::{
