@@ -1,14 +1,16 @@
+//! The forms of a line: one reader for each call.
+
 ghost use Rattle.std.specs.Prelude.{◌≡◌};
 ghost use Rattle.edge_words.specs.Reading.{Gives, mapped, one};
 ghost use Rattle.cache_types.specs.declared.calls.CacheCall.TheVariants.{Begin, End};
 ghost use Rattle.call_lines.specs.Reading as spec;
 
-use crate::limits::is_limited;
-use crate::line::{Line, Named, Naming};
-use crate::naming::{named_call, reference};
+use crate::limits::{MOST_READ, is_limited};
+use crate::naming::{Naming, named_call, reference};
 use crate::options::{headers, terms, writing};
 use cache_types::{CacheCall, Octets};
 use edge_words::{LineFault, Words};
+use script_lines::{Line, Named};
 use std::alloc::Global;
 
 fn unnamed(call: CacheCall) -> Line
@@ -158,7 +160,7 @@ fn read(naming: Naming, words: Words<'_>) -> Result<(Line, Words<'_>), LineFault
 {
     let (named, words) = reference(naming, words)?;
     let (place, words) = words.number()?;
-    let (most, words) = words.number_from_to(1, 65536)?;
+    let (most, words) = words.number_from_to(1, u64::from(MOST_READ))?;
     let call = CacheCall::Read {
         hit: 0,
         place,

@@ -1,3 +1,5 @@
+//! The options of a call, each behind its prefix, in their order.
+
 ghost use Rattle.std.specs.Prelude.{◌≡◌};
 ghost use Rattle.edge_words.specs.Reading.{Gives};
 ghost use Rattle.call_lines.specs.Reading as spec;

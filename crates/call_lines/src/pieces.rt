@@ -1,3 +1,5 @@
+//! Values inside one word: headers, lists between commas, rules.
+
 ghost use Rattle.std.specs.Prelude.{◌≡◌, IfSome, IsTrue};
 ghost use Rattle.std.specs.Option.{option_map};
 ghost use Rattle.std.specs.List.{list_all};
@@ -102,7 +104,7 @@ fn rise(names: &[Octets]) -> bool
 fn has_lower_bytes(name: &[u8]) -> bool
     ensures { result ≡ list_all is_lower_byte name.now }
 {
-    name.iter().all(|byte| !(65 <= *byte && *byte <= 90))
+    name.iter().all(|byte| !byte.is_ascii_uppercase())
 }
 
 fn are_lower(names: &[Octets]) -> bool
