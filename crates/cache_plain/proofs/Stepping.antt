@@ -1,34 +1,16 @@
 -- One more entry of a legal history.
-use Rattle.std.specs.Prelude.{◌≡◌, ℕ, ◌+◌, ◌-◌, ◌<◌, ◌≤◌, true, false, not, List, [], ◌∷◌, ◌++◌, length, refl}
-use Rattle.std.proofs.Common.{arith, ap, sym, subst, length-append}
+use Rattle.std.specs.Prelude.{◌≡◌, ℕ, ◌+◌, ◌-◌, ◌<◌, ◌≤◌, true, false, List, [], ◌∷◌, ◌++◌, length, refl}
+use Rattle.std.proofs.Common.{arith, sym, subst, length-append}
+use Rattle.std.proofs.lemmas.List.{reverse-append}
 use Rattle.cache_types.specs.declared.calls.CacheCall.{CacheCall}
 use Rattle.cache_types.specs.declared.calls.CacheCall.TheVariants.{Begin, End}
 use Rattle.cache_types.specs.declared.entries.Entry.{Entry}
-use Rattle.cache_types.specs.Entries.{newest_first, is_begin, is_end, is_not_yet}
-use Rattle.cache_types.specs.Legal.{IsLegalPast, IsLegal, IsNext, IsGuest}
-use Rattle.cache_types.specs.Step.{IsCaller, entry_after, reply_after, live_guests}
+use Rattle.cache_types.specs.Entries.{newest_first, is_begin, is_end}
+use Rattle.cache_types.specs.Legal.{IsNext}
+use Rattle.cache_types.specs.Step.{live_guests}
+use Rattle.cache_types.proofs.Following.{legal-push}
 use Rattle.cache_plain.specs.Kept.{IsKept, HasRoom}
-use Rattle.cache_plain.proofs.Walks.{reverse-push}
 use Rattle.cache_plain.proofs.Living.{live-after-begin, live-after-end, live-after-other}
-
--- the guest of a call that may be made is the guest of its entry
-pub caller-guest : (past : List Entry) (guest reading : ℕ) (call : CacheCall) → IsCaller past guest call → IsGuest past (entry_after past guest reading call) call
-caller-guest past guest reading Begin caller = refl
-caller-guest past guest reading _ caller = caller
-
--- an entry that is answered may follow
-pub may-follow : (past : List Entry) (guest reading : ℕ) (call : CacheCall) → IsCaller past guest call → is_not_yet (reply_after past guest reading call) ≡ false → IsNext past (entry_after past guest reading call)
-may-follow past guest reading call caller answered = record {
-  number = refl;
-  moment = omega arith;
-  guest = caller-guest past guest reading call caller;
-  reply = refl;
-  answered = ap not answered;
-}
-
--- what may follow a legal history makes a legal one
-pub legal-push : (entries : List Entry) (e : Entry) → IsLegal entries → IsNext (newest_first entries) e → IsLegal (entries ++ e ∷ [])
-legal-push entries e legal next = subst IsLegalPast (sym (reverse-push entries e)) (next, legal)
 
 pub end-not-begin : (call : CacheCall) → is_end call ≡ true → is_begin call ≡ false
 end-not-begin Begin end = cc
@@ -57,7 +39,7 @@ room-for-entry entries live room e kept next has = room-by entries live room e.c
 pub kept-push : (entries : List Entry) (live after room : ℕ) (e : Entry) → IsKept entries live room → IsNext (newest_first entries) e → length (live_guests (e ∷ newest_first entries)) ≡ after → length entries + 1 + after ≤ room → IsKept (entries ++ e ∷ []) after room
 kept-push entries live after room e kept next counted room_left = record {
   legal = legal-push entries e kept.legal next;
-  counted = subst (λ past. after ≡ length (live_guests past)) (sym (reverse-push entries e)) (sym counted);
+  counted = subst (λ past. after ≡ length (live_guests past)) (sym (reverse-append entries (e ∷ []))) (sym counted);
   room_for_ends = omega (arith, length-append entries (e ∷ []));
 }
 

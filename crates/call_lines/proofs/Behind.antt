@@ -13,9 +13,9 @@ use Rattle.edge_words.proofs.Numbers.{same_bytes}
 use Rattle.edge_words.proofs.Laws.{IsCodec, IsNumber, IsFromTo, FitBoth, number_codec, number_from_to_codec, hex_codec, one_lawful, both_lawful}
 use Rattle.edge_words.proofs.Before.{IsLawfulBefore, before_all, before_fewer, both_before}
 use Rattle.edge_words.proofs.ChoiceLaws.{chosen}
-use Rattle.call_lines.specs.declared.line.Named.{Named}
-use Rattle.call_lines.specs.declared.line.Naming.{Naming}
-use Rattle.call_lines.specs.declared.line.Naming.TheVariants.{Marked, Plain}
+use Rattle.script_lines.specs.declared.line.Named.{Named}
+use Rattle.call_lines.specs.declared.naming.Naming.{Naming}
+use Rattle.call_lines.specs.declared.naming.Naming.TheVariants.{Marked, Plain}
 use Rattle.call_lines.specs.Calls.{heads, terms_words, writing_words, purge_word}
 use Rattle.call_lines.specs.Lines.{named_word, IsReference, IsField, AreTerms, IsWriting, IsPlain}
 use Rattle.call_lines.specs.Reading.{reference_in, heads_in, terms_in, writing_in, bare_in, lookup_in, insert_in, purge_kind_in, purge_in, named_in, tx_insert_in, tx_update_in, write_in, read_in}

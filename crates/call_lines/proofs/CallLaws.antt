@@ -8,11 +8,12 @@ use Rattle.edge_words.specs.Words.{are_words}
 use Rattle.edge_words.specs.Reading.{mapped, ◌>>=◌}
 use Rattle.edge_words.proofs.Laws.{map_some, bind_some}
 use Rattle.edge_words.proofs.Before.{IsLawfulBefore}
-use Rattle.call_lines.specs.declared.line.Named.{Named}
-use Rattle.call_lines.specs.declared.line.Named.TheVariants as ref
-use Rattle.call_lines.specs.declared.line.Naming.TheVariants.{Plain}
-use Rattle.call_lines.specs.declared.line.Line.{Line}
-use Rattle.call_lines.specs.Lines.{number_of, with_name, call_of, line_of_call, plain_words, IsCall, line_words, IsReference, IsForm, IsCallForm}
+use Rattle.script_lines.specs.declared.line.Named.{Named}
+use Rattle.script_lines.specs.declared.line.Named.TheVariants as ref
+use Rattle.call_lines.specs.declared.naming.Naming.TheVariants.{Plain}
+use Rattle.script_lines.specs.declared.line.Line.{Line}
+use Rattle.script_lines.specs.Names.{with_name}
+use Rattle.call_lines.specs.Lines.{number_of, call_of, line_of_call, plain_words, IsCall, line_words, IsReference, IsForm, IsCallForm}
 use Rattle.call_lines.specs.Reading
 use Rattle.call_lines.proofs.TermLaws.{IsBehind}
 use Rattle.call_lines.proofs.FormLaws.{line_with, form_takes, form_again}

@@ -7,8 +7,8 @@ use Rattle.edge_words.proofs.Numbers.{same_bytes}
 use Rattle.edge_words.proofs.Laws.{map_some}
 use Rattle.edge_words.proofs.Before.{IsLawfulBefore}
 use Rattle.edge_words.proofs.ChoiceLaws.{chosen}
-use Rattle.call_lines.specs.declared.line.Naming.{Naming}
-use Rattle.call_lines.specs.declared.line.Line.{Line}
+use Rattle.call_lines.specs.declared.naming.Naming.{Naming}
+use Rattle.script_lines.specs.declared.line.Line.{Line}
 use Rattle.call_lines.specs.Lines.{line_words, IsForm}
 use Rattle.call_lines.specs.Reading
 use Rattle.call_lines.proofs.TermLaws.{IsBehind}

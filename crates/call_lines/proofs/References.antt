@@ -8,10 +8,10 @@ use Rattle.edge_words.specs.Reading.{number_in}
 use Rattle.edge_words.proofs.Numbers.{number_takes, number_again, number_word}
 use Rattle.edge_words.proofs.Laws.{IsCodec, map_some}
 use Rattle.edge_words.proofs.ChoiceLaws.{chosen}
-use Rattle.call_lines.specs.declared.line.Named.{Named}
-use Rattle.call_lines.specs.declared.line.Named.TheVariants as ref
-use Rattle.call_lines.specs.declared.line.Naming.{Naming}
-use Rattle.call_lines.specs.declared.line.Naming.TheVariants.{Marked, Plain}
+use Rattle.script_lines.specs.declared.line.Named.{Named}
+use Rattle.script_lines.specs.declared.line.Named.TheVariants as ref
+use Rattle.call_lines.specs.declared.naming.Naming.{Naming}
+use Rattle.call_lines.specs.declared.naming.Naming.TheVariants.{Marked, Plain}
 use Rattle.call_lines.specs.Lines.{named_word, IsReference}
 use Rattle.call_lines.specs.Reading.{marked_in, reference_in}
 

@@ -9,11 +9,12 @@ use Rattle.cache_types.specs.declared.calls.CacheCall.TheVariants.{Begin, Lookup
 use Rattle.cache_types.specs.Limits.{is_name, is_within_limits}
 use Rattle.cache_types.specs.Rule.{is_rule}
 use Rattle.edge_words.specs.Reading.{AllFit}
-use Rattle.call_lines.specs.declared.line.Named.{Named}
-use Rattle.call_lines.specs.declared.line.Named.TheVariants as ref
-use Rattle.call_lines.specs.declared.line.Naming.{Naming}
-use Rattle.call_lines.specs.declared.line.Naming.TheVariants.{Marked, Plain}
-use Rattle.call_lines.specs.declared.line.Line.{Line}
+use Rattle.script_lines.specs.declared.line.Named.{Named}
+use Rattle.script_lines.specs.declared.line.Named.TheVariants as ref
+use Rattle.call_lines.specs.declared.naming.Naming.{Naming}
+use Rattle.call_lines.specs.declared.naming.Naming.TheVariants.{Marked, Plain}
+use Rattle.script_lines.specs.declared.line.Line.{Line}
+use Rattle.script_lines.specs.Names.{with_name}
 use Rattle.call_lines.specs.Calls.{call_words, named_number}
 
 -- ---- spelling
@@ -104,18 +105,6 @@ abbrev pub number_of : Named → ℕ
 number_of ref.Nothing = 0
 number_of (ref.Line n) = n
 number_of (ref.Number n) = n
-
--- the call with this number in the place of the entry that it names
-abbrev pub with_name : ℕ → CacheCall → CacheCall
-with_name name (TxInsert tx writing) = TxInsert name writing
-with_name name (TxUpdate tx terms) = TxUpdate name terms
-with_name name (TxCancel tx) = TxCancel name
-with_name name (Close tx) = Close name
-with_name name (Write object piece) = Write name piece
-with_name name (Finish object) = Finish name
-with_name name (Abandon object) = Abandon name
-with_name name (Read hit place most) = Read name place most
-with_name name call = call
 
 abbrev pub call_of : Line → CacheCall
 call_of line = with_name (number_of line.named) line.call

@@ -9,11 +9,11 @@ use Rattle.cache_types.specs.declared.calls.CacheCall.TheVariants.{Begin, Lookup
 use Rattle.cache_types.specs.Limits.{is_name, is_within_limits}
 use Rattle.cache_types.specs.Rule.{is_rule}
 use Rattle.edge_words.specs.Reading.{one, both, mapped, maybe, many, listed_in, prefixed, parts_at, number_in, number_from_to, hex_in, ◌>>=◌}
-use Rattle.call_lines.specs.declared.line.Named.{Named}
-use Rattle.call_lines.specs.declared.line.Named.TheVariants as ref
-use Rattle.call_lines.specs.declared.line.Naming.{Naming}
-use Rattle.call_lines.specs.declared.line.Naming.TheVariants.{Marked, Plain}
-use Rattle.call_lines.specs.declared.line.Line.{Line}
+use Rattle.script_lines.specs.declared.line.Named.{Named}
+use Rattle.script_lines.specs.declared.line.Named.TheVariants as ref
+use Rattle.call_lines.specs.declared.naming.Naming.{Naming}
+use Rattle.call_lines.specs.declared.naming.Naming.TheVariants.{Marked, Plain}
+use Rattle.script_lines.specs.declared.line.Line.{Line}
 use Rattle.call_lines.specs.Lines.{call_of}
 
 -- what reads a word or some words, and leaves others

@@ -1,14 +1,16 @@
+//! The forms of a line: one reader for each call.
+
 ghost use Rattle.std.specs.Prelude.{◌≡◌};
 ghost use Rattle.edge_words.specs.Reading.{Gives, mapped, one};
 ghost use Rattle.cache_types.specs.declared.calls.CacheCall.TheVariants.{Begin, End};
 ghost use Rattle.call_lines.specs.Reading as spec;
 
-use crate::limits::is_limited;
-use crate::line::{Line, Named, Naming};
-use crate::naming::{named_call, reference};
+use crate::limits::{MOST_READ, is_limited};
+use crate::naming::{Naming, named_call, reference};
 use crate::options::{headers, terms, writing};
 use cache_types::{CacheCall, Octets};
 use edge_words::{LineFault, Words};
+use script_lines::{Line, Named};
 use std::alloc::Global;
 
 fn unnamed(call: CacheCall) -> Line
@@ -34,7 +36,7 @@ fn lookup(alloc: Global, words: Words<'_>) -> Result<(Line, Words<'_>), LineFaul
 {
     let (key, words) = words.hex(alloc)?;
     let (headers, words) = headers(alloc, words)?;
-    let key = Octets::from_vec(key);
+    let key = Octets::from_vec(key)?;
     Ok((unnamed(CacheCall::Lookup { key, headers }), words))
 }
 
@@ -43,7 +45,7 @@ fn tx_lookup(alloc: Global, words: Words<'_>) -> Result<(Line, Words<'_>), LineF
 {
     let (key, words) = words.hex(alloc)?;
     let (headers, words) = headers(alloc, words)?;
-    let key = Octets::from_vec(key);
+    let key = Octets::from_vec(key)?;
     Ok((unnamed(CacheCall::TxLookup { key, headers }), words))
 }
 
@@ -54,7 +56,7 @@ fn insert(alloc: Global, words: Words<'_>) -> Result<(Line, Words<'_>), LineFaul
     let (writing, words) = writing(alloc, words)?;
     let (headers, words) = headers(alloc, words)?;
     let call = CacheCall::Insert {
-        key: Octets::from_vec(key),
+        key: Octets::from_vec(key)?,
         headers,
         writing,
     };
@@ -79,7 +81,7 @@ fn purge(alloc: Global, words: Words<'_>) -> Result<(Line, Words<'_>), LineFault
 {
     let (key, words) = words.hex(alloc)?;
     let (soft, words) = purge_kind(words)?;
-    let key = Octets::from_vec(key);
+    let key = Octets::from_vec(key)?;
     Ok((unnamed(CacheCall::Purge { key, soft }), words))
 }
 
@@ -132,7 +134,7 @@ fn write(alloc: Global, naming: Naming, words: Words<'_>) -> Result<(Line, Words
     let (piece, words) = words.hex(alloc)?;
     let call = CacheCall::Write {
         object: 0,
-        piece: Octets::from_vec(piece),
+        piece: Octets::from_vec(piece)?,
     };
     Ok((Line { call, named }, words))
 }
@@ -158,7 +160,7 @@ fn read(naming: Naming, words: Words<'_>) -> Result<(Line, Words<'_>), LineFault
 {
     let (named, words) = reference(naming, words)?;
     let (place, words) = words.number()?;
-    let (most, words) = words.number_from_to(1, 65536)?;
+    let (most, words) = words.number_from_to(1, u64::from(MOST_READ))?;
     let call = CacheCall::Read {
         hit: 0,
         place,

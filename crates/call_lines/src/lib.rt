@@ -7,7 +7,6 @@
 
 mod forms;
 mod limits;
-mod line;
 mod naming;
 mod options;
 mod pieces;
@@ -15,6 +14,6 @@ mod words;
 
 pub use forms::{read_call, read_form};
 pub use limits::{is_kept, is_limited};
-pub use line::{Line, Named, Naming};
-pub use naming::{named_call, with_name};
+pub use naming::{Naming, named_call};
+pub use script_lines::{Line, Named, with_name};
 pub use words::write_call;

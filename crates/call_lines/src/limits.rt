@@ -1,13 +1,36 @@
+//! The limits that a call keeps, and a line at its place.
+
 ghost use Rattle.std.specs.Prelude.{◌≡◌, ◌+◌, ◌-◌, ◌^◌, length, min, sum_by};
 ghost use Rattle.std.specs.List.{list_all};
 ghost use Rattle.cache_types.specs.Limits.{is_name, is_surrogate, is_headers, is_surrogates, is_rule_names, is_terms, is_length, is_writing, is_within_limits};
 ghost use Rattle.call_lines.specs.Lines.{is_before, keeps_limits};
 
-use crate::line::{Line, Named};
 use cache_types::{
     CacheCall, Field, Fields, Octets, Rule, Terms, Writing, is_cache_key, is_header_name,
     is_surrogate_key,
 };
+use script_lines::{Line, Named};
+
+/// The headers of a request.
+const MOST_HEADERS: usize = 100;
+
+/// The bytes of all surrogate keys of an object, with one more behind each.
+const MOST_SURROGATE_BYTES: u64 = 16385;
+
+/// The names of a rule.
+const MOST_RULE_NAMES: usize = 32;
+
+/// The bytes of an object's metadata.
+const MOST_METADATA: usize = 65536;
+
+/// The bytes that an object may declare.
+const MOST_LENGTH: u64 = 67_108_864;
+
+/// The bytes of one piece that is written.
+const MOST_PIECE: usize = 65536;
+
+/// The bytes that one read may ask for.
+pub const MOST_READ: u32 = 65536;
 
 fn have_names(fields: &[Field]) -> bool
     ensures { result ≡ list_all (λ field. is_name field.name) fields.now }
@@ -20,7 +43,7 @@ fn have_names(fields: &[Field]) -> bool
 fn are_headers(headers: &Fields) -> bool
     ensures { result ≡ is_headers headers.now }
 {
-    headers.items().len() <= 100 && have_names(headers.items())
+    headers.items().len() <= MOST_HEADERS && have_names(headers.items())
 }
 
 /// How long the keys are with one space after each, up to the greatest number.
@@ -45,7 +68,7 @@ fn are_surrogate_keys(keys: &[Octets]) -> bool
 fn are_surrogates(keys: &[Octets]) -> bool
     ensures { result ≡ is_surrogates keys.now }
 {
-    are_surrogate_keys(keys) && spaced_len(keys) <= 16385
+    are_surrogate_keys(keys) && spaced_len(keys) <= MOST_SURROGATE_BYTES
 }
 
 fn are_names(names: &[Octets]) -> bool
@@ -57,13 +80,13 @@ fn are_names(names: &[Octets]) -> bool
 fn are_rule_names(rule: &Rule) -> bool
     ensures { result ≡ is_rule_names rule.now }
 {
-    rule.items().len() <= 32 && are_names(rule.items())
+    rule.items().len() <= MOST_RULE_NAMES && are_names(rule.items())
 }
 
 fn are_terms(terms: &Terms) -> bool
     ensures { result ≡ is_terms terms.now }
 {
-    are_surrogates(terms.surrogates.items()) && terms.metadata.bytes().len() <= 65536
+    are_surrogates(terms.surrogates.items()) && terms.metadata.bytes().len() <= MOST_METADATA
 }
 
 fn is_declared_length(length: Option<u64>) -> bool
@@ -71,7 +94,7 @@ fn is_declared_length(length: Option<u64>) -> bool
 {
     match length {
         None => true,
-        Some(length) => length <= 67_108_864,
+        Some(length) => length <= MOST_LENGTH,
     }
 }
 
@@ -98,14 +121,14 @@ pub fn is_limited(call: &CacheCall) -> bool
         CacheCall::TxUpdate { tx: _, terms } => are_terms(terms),
         CacheCall::TxCancel { tx: _ } => true,
         CacheCall::Close { tx: _ } => true,
-        CacheCall::Write { object: _, piece } => piece.bytes().len() <= 65536,
+        CacheCall::Write { object: _, piece } => piece.bytes().len() <= MOST_PIECE,
         CacheCall::Finish { object: _ } => true,
         CacheCall::Abandon { object: _ } => true,
         CacheCall::Read {
             hit: _,
             place: _,
             most,
-        } => 1 <= *most && *most <= 65536,
+        } => 1 <= *most && *most <= MOST_READ,
         CacheCall::Purge { key, soft: _ } => is_surrogate_key(key.bytes()),
         CacheCall::End => true,
     }

@@ -1,11 +1,22 @@
+//! What stands in a line for the entry that its call names.
+
 ghost use Rattle.std.specs.Prelude.{◌≡◌};
 ghost use Rattle.edge_words.specs.Reading.{Gives, one};
 ghost use Rattle.call_lines.specs.Lines as spec;
 ghost use Rattle.call_lines.specs.Reading.{marked_in, reference_in};
 
-use crate::line::{Line, Named, Naming};
 use cache_types::CacheCall;
 use edge_words::{LineFault, Words, read_number};
+use script_lines::{Line, Named, with_name};
+
+/// How a line spells the entry that its call names.
+#[derive(Clone, Copy, Debug, PartialEq, Eq)]
+pub enum Naming {
+    /// In a run file: `@n` for the entry of an earlier line, `#n` for the number itself. No line begins or ends a guest.
+    Marked,
+    /// In a journal: the number, with no mark. Guests begin and end.
+    Plain,
+}
 
 fn marked(word: &[u8]) -> Option<Named>
     ensures { result ≡ marked_in word.now }
@@ -45,30 +56,6 @@ fn number_of(named: Named) -> u64
         Named::Nothing => 0,
         Named::Line(number) => number,
         Named::Number(number) => number,
-    }
-}
-
-/// The call with this number in the place of the entry that it names.
-pub fn with_name(name: u64, call: CacheCall) -> CacheCall
-    ensures { result ≡ spec.with_name name call }
-{
-    match call {
-        CacheCall::TxInsert { writing, .. } => CacheCall::TxInsert { tx: name, writing },
-        CacheCall::TxUpdate { terms, .. } => CacheCall::TxUpdate { tx: name, terms },
-        CacheCall::TxCancel { .. } => CacheCall::TxCancel { tx: name },
-        CacheCall::Close { .. } => CacheCall::Close { tx: name },
-        CacheCall::Write { piece, .. } => CacheCall::Write {
-            object: name,
-            piece,
-        },
-        CacheCall::Finish { .. } => CacheCall::Finish { object: name },
-        CacheCall::Abandon { .. } => CacheCall::Abandon { object: name },
-        CacheCall::Read { place, most, .. } => CacheCall::Read {
-            hit: name,
-            place,
-            most,
-        },
-        call => call,
     }
 }
 

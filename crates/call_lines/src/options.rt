@@ -1,3 +1,5 @@
+//! The options of a call, each behind its prefix, in their order.
+
 ghost use Rattle.std.specs.Prelude.{◌≡◌};
 ghost use Rattle.edge_words.specs.Reading.{Gives};
 ghost use Rattle.call_lines.specs.Reading as spec;
@@ -61,7 +63,7 @@ fn some_bytes(alloc: Global, word: &[u8]) -> Result<Octets, LineFault>
     if bytes.is_empty() {
         Err(LineFault::Bad)
     } else {
-        Ok(Octets::from_vec(bytes))
+        Ok(Octets::from_vec(bytes)?)
     }
 }
 
@@ -69,7 +71,7 @@ fn metadata(alloc: Global, words: Words<'_>) -> Result<(Octets, Words<'_>), Line
     ensures { Gives (λ read. read) result (spec.metadata_in words.entry) }
 {
     match words.optional(b"meta=") {
-        (None, words) => Ok((Octets::from_vec(Vec::new(alloc)), words)),
+        (None, words) => Ok((Octets::from_vec(Vec::new(alloc))?, words)),
         (Some(text), words) => Ok((some_bytes(alloc, text)?, words)),
     }
 }

@@ -1,3 +1,5 @@
+//! Values inside one word: headers, lists between commas, rules.
+
 ghost use Rattle.std.specs.Prelude.{◌≡◌, IfSome, IsTrue};
 ghost use Rattle.std.specs.Option.{option_map};
 ghost use Rattle.std.specs.List.{list_all};
@@ -43,7 +45,7 @@ pub fn header(alloc: Global, text: &[u8]) -> Result<Field, LineFault>
     let value = read_hex(alloc, value)?;
     Ok(Field {
         name,
-        value: Octets::from_vec(value),
+        value: Octets::from_vec(value)?,
     })
 }
 
@@ -54,10 +56,10 @@ pub fn hex_pieces(alloc: Global, text: &[u8]) -> Result<Vec<Octets>, LineFault>
     let mut pieces = Vec::new(alloc);
     let mut rest = text;
     while let Some((piece, after)) = cut(rest, b',') {
-        pieces.push(Octets::from_vec(read_hex(alloc, piece)?))?;
+        pieces.push(Octets::from_vec(read_hex(alloc, piece)?)?)?;
         rest = after;
     }
-    pieces.push(Octets::from_vec(read_hex(alloc, rest)?))?;
+    pieces.push(Octets::from_vec(read_hex(alloc, rest)?)?)?;
     Ok(pieces)
 }
 
@@ -102,7 +104,7 @@ fn rise(names: &[Octets]) -> bool
 fn has_lower_bytes(name: &[u8]) -> bool
     ensures { result ≡ list_all is_lower_byte name.now }
 {
-    name.iter().all(|byte| !(65 <= *byte && *byte <= 90))
+    name.iter().all(|byte| !byte.is_ascii_uppercase())
 }
 
 fn are_lower(names: &[Octets]) -> bool

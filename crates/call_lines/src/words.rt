@@ -1,3 +1,5 @@
+//! Writes the words of a call.
+
 ghost use Rattle.std.specs.Prelude.{◌≡◌, ◌++◌, ◌∷◌, [], IfOk, codes, decimal, map};
 ghost use Rattle.std.specs.List.{flat_map};
 ghost use Rattle.edge_words.specs.Words.{spaced, hex_word, after_comma};

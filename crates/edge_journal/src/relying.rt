@@ -1,14 +1,15 @@
-ghost use Rattle.std.specs.Prelude.{◌≡◌, IfOk, IfErr, IsOk};
-ghost use Rattle.edge_journal.specs.declared.run.RunFault.TheVariants.{OutOfMemory};
-ghost use Rattle.edge_journal.specs.ByLines.{IsReadAs, IsFirstBad};
-ghost use Rattle.edge_journal.specs.Readable.{IsReadable, IsSpelled};
-ghost use Rattle.edge_journal.specs.JournalMachine.{spell};
+//! What may be relied on of writing and reading together.
 
-use crate::journal::journal_text;
-use crate::journal_reader::read_journal;
-use crate::journals::Journal;
-use crate::run::RunFault;
+ghost use Rattle.std.specs.Prelude.{◌≡◌, IfOk, IfErr, IsOk};
+ghost use Rattle.line_reader.specs.declared.fault.RunFault.TheVariants.{OutOfMemory};
+ghost use Rattle.line_reader.specs.ByLines.{IsReadAs, IsFirstBad};
+ghost use Rattle.journal_reader.specs.Readable.{IsReadable, IsSpelled};
+ghost use Rattle.journal_reader.specs.Machine.{spell};
+
 use cache_types::{Done, History, Octets};
+use journal_reader::{Journal, read_journal};
+use journal_writer::journal_text;
+use line_reader::RunFault;
 use std::alloc::Global;
 
 /// What is written is read back as it was, unless memory runs out.

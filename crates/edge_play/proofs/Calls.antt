@@ -10,8 +10,8 @@ use Rattle.cache_types.specs.Entries.{is_live, is_begin, is_end}
 use Rattle.cache_types.specs.Limits.{is_within_limits}
 use Rattle.cache_types.specs.Legal.{IsLegalPast}
 use Rattle.cache_types.specs.Step.{IsCaller}
-use Rattle.call_lines.specs.declared.line.Line.{Line}
-use Rattle.call_lines.specs.Lines.{with_name}
+use Rattle.script_lines.specs.declared.line.Line.{Line}
+use Rattle.script_lines.specs.Names.{with_name}
 use Rattle.edge_play.specs.Script.{value_of, call_of, name_in, line_call, next_call}
 use Rattle.edge_play.specs.Schedule.{Seat}
 use Rattle.edge_play.specs.Blocks.{own, values_of, is_script, is_script_line}

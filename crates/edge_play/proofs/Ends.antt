@@ -11,7 +11,7 @@ use Rattle.cache_types.specs.declared.outer.Outcome.{Outcome}
 use Rattle.cache_types.specs.declared.outer.Outcome.TheVariants as outcome
 use Rattle.cache_types.specs.declared.outer.Event.TheVariants as event
 use Rattle.cache_types.specs.Entries.{newest_first}
-use Rattle.call_lines.specs.declared.line.Line.{Line}
+use Rattle.script_lines.specs.declared.line.Line.{Line}
 use Rattle.edge_play.specs.Schedule.{Seat, new_seat, start_of, blocks_from}
 use Rattle.edge_play.specs.Blocks.{own, IsRun, AreBlocks, differ, covers, guests_of, HasBlocks, is_script}
 use Rattle.edge_play.specs.Ready.{IsSeatState, AllStand, NoneIs, AllDiffer, OneIs, AllSeated, IsReady, AllOver, scripts_of, world_of}

@@ -8,7 +8,7 @@ use Rattle.cache_types.specs.declared.outer.Outcome.{Outcome}
 use Rattle.cache_types.specs.declared.outer.Outcome.TheVariants as outcome
 use Rattle.cache_types.specs.Entries.{is_not_yet}
 use Rattle.cache_types.specs.Step.{entry_after, reply_after, is_full}
-use Rattle.call_lines.specs.declared.line.Line.{Line}
+use Rattle.script_lines.specs.declared.line.Line.{Line}
 use Rattle.edge_play.specs.Script.{next_call}
 use Rattle.edge_play.specs.Schedule.{Seat, Turn, seat_at, seat_with, unchanged, answered, stopped, tried, asked, turned, MayTurn}
 use Rattle.edge_play.specs.Ready.{scripts_of}

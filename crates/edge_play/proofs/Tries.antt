@@ -1,5 +1,5 @@
 -- One try, from what a step tells.
-use Rattle.std.specs.Prelude.{◌≡◌, ℕ, Bool, true, false, not, ◌||◌, List, [], ◌∷◌, ◌++◌, reverse, refl, IsTrue}
+use Rattle.std.specs.Prelude.{◌≡◌, ℕ, Bool, true, false, not, ◌||◌, List, [], ◌∷◌, ◌++◌, refl, IsTrue}
 use Rattle.std.proofs.Common.{ap, sym, ◌∙◌, subst}
 use Rattle.std.proofs.lemmas.Bool.{not-true}
 use Rattle.std.proofs.lemmas.List.{reverse-append}
@@ -12,9 +12,6 @@ use Rattle.cache_types.specs.declared.outer.Outcome.TheVariants as outcome
 use Rattle.cache_types.specs.Entries.{newest_first, is_not_yet, next_number}
 use Rattle.cache_types.specs.Step.{guest_of, entry_after, reply_after, stepped, history_after, is_full}
 use Rattle.edge_play.specs.Schedule.{Seat, AreAfter, noted, named_by, outcome_after, answered, stopped, tried}
-
-pub reverse-push : {A : Type 0} (xs : List A) (x : A) → reverse (xs ++ x ∷ []) ≡ x ∷ reverse xs
-reverse-push xs x = reverse-append xs (x ∷ [])
 
 -- the guest of an entry
 pub guest_of-named : (past : List Entry) (guest : ℕ) (call : CacheCall) → guest_of past guest call ≡ named_by guest (next_number past) call
@@ -43,7 +40,7 @@ answer-turn most history after seat moved reading call t is kept room quiet more
     let named : moved ≡ noted seat (guest_of past seat.guest call) (next_number past) (reply_after past seat.guest reading call) (outcome_after call) =
     shown ∙ ap (λ guest. noted seat guest (next_number past) (reply_after past seat.guest reading call) (outcome_after call)) (sym (guest_of-named past seat.guest call))
     in
-    rw (yes, free) (record { past_is = ap newest_first one_more ∙ reverse-push history (entry_after past seat.guest reading call); seat_is = named })
+    rw (yes, free) (record { past_is = ap newest_first one_more ∙ reverse-append history (entry_after past seat.guest reading call ∷ []); seat_is = named })
     in
     let with : (b : Bool) → is_not_yet (reply_after past seat.guest reading call) ≡ b → AreAfter (newest_first after) moved (tried most past seat reading call) =
     elim [ true ↦ waits | false ↦ answers ]

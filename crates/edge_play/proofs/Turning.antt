@@ -7,31 +7,17 @@ use Rattle.cache_types.specs.declared.calls.CacheCall.TheVariants.{Begin, End}
 use Rattle.cache_types.specs.declared.entries.Entry.{Entry}
 use Rattle.cache_types.specs.declared.outer.Outcome.{Outcome}
 use Rattle.cache_types.specs.declared.outer.Outcome.TheVariants as outcome
-use Rattle.cache_types.specs.Entries.{is_live, is_begin, is_end, is_not_yet, next_number}
+use Rattle.cache_types.specs.Entries.{is_live, is_begin, is_end, next_number}
 use Rattle.cache_types.specs.Limits.{is_within_limits}
-use Rattle.cache_types.specs.Legal.{IsLegalPast, IsNext, IsGuest}
-use Rattle.cache_types.specs.Step.{IsCaller, guest_of, entry_after, reply_after}
-use Rattle.call_lines.specs.declared.line.Line.{Line}
+use Rattle.cache_types.specs.Legal.{IsLegalPast}
+use Rattle.cache_types.specs.Step.{IsCaller, guest_of, entry_after}
+use Rattle.script_lines.specs.declared.line.Line.{Line}
 use Rattle.edge_play.specs.Script.{value_of, call_of, name_in, line_call, next_call}
 use Rattle.edge_play.specs.Schedule.{Seat, seat_with, outcome_after}
 use Rattle.edge_play.specs.Blocks.{own, numbers_of, values_of, Follows, IsCut, IsRun, is_script}
 use Rattle.edge_play.specs.Ready.{IsGoing, IsSeatState, SeatStands}
 use Rattle.edge_play.proofs.Guests.{own-zero, own-fresh, live-stays, live-begun, not-ended, live-named}
 use Rattle.edge_play.proofs.Calls.{script-line, with_name-same, reverse-cons}
-
--- an entry that is answered may follow
-pub caller-guest : (past : List Entry) (guest reading : ℕ) (call : CacheCall) → IsCaller past guest call → IsGuest past (entry_after past guest reading call) call
-caller-guest past guest reading Begin caller = refl
-caller-guest past guest reading _ caller = caller
-
-pub may-follow : (past : List Entry) (guest reading : ℕ) (call : CacheCall) → IsCaller past guest call → is_not_yet (reply_after past guest reading call) ≡ false → IsNext past (entry_after past guest reading call)
-may-follow past guest reading call caller answers = record {
-  number = refl;
-  moment = omega arith;
-  guest = caller-guest past guest reading call caller;
-  reply = refl;
-  answered = ap not answers;
-}
 
 -- one more own entry
 pub own-more : (past : List Entry) (e : Entry) → own (e ∷ past) e.guest ≡ e ∷ own past e.guest

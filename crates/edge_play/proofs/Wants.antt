@@ -10,8 +10,8 @@ use Rattle.cache_types.specs.declared.outer.Outcome.{Outcome}
 use Rattle.cache_types.specs.declared.outer.Outcome.TheVariants as outcome
 use Rattle.cache_types.specs.declared.outer.Done.{Done}
 use Rattle.cache_types.specs.Step.{entry_after}
-use Rattle.call_lines.specs.declared.line.Line.{Line}
-use Rattle.edge_journal.specs.declared.run.Step.{Step}
+use Rattle.script_lines.specs.declared.line.Line.{Line}
+use Rattle.script_lines.specs.declared.step.Step.{Step}
 use Rattle.edge_play.specs.Schedule.{Seat, Turn, AreAfter, World, seat_at, seat_with, stopped, turned, MayTurn, StepGives, PlayGives, start_of, closed_turn, closed, blocks_from, IsPlayed, is_step_of, are_steps_of, new_seat}
 use Rattle.edge_play.specs.OneResult.{after_step, after_steps, all_closed, played, IsOneResult, is_memory, one_wanted}
 

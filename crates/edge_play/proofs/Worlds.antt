@@ -9,7 +9,7 @@ use Rattle.cache_types.specs.declared.outer.Outcome.{Outcome}
 use Rattle.cache_types.specs.declared.outer.Outcome.TheVariants as outcome
 use Rattle.cache_types.specs.Entries.{is_live, is_not_yet}
 use Rattle.cache_types.specs.Step.{entry_after, reply_after, is_full}
-use Rattle.edge_journal.specs.declared.run.Step.{Step}
+use Rattle.script_lines.specs.declared.step.Step.{Step}
 use Rattle.edge_play.specs.Script.{next_call}
 use Rattle.edge_play.specs.Schedule.{Seat, Turn, AreAfter, World, seat_at, seat_with, outcome_after, unchanged, answered, stopped, tried, asked, turned, MayTurn, StepGives}
 use Rattle.edge_play.specs.OneResult.{after_turn}
@@ -17,7 +17,8 @@ use Rattle.edge_play.specs.Ready.{IsGoing, IsSeatState, SeatStands, AllStand, Is
 use Rattle.edge_play.proofs.Calls.{may-call}
 use Rattle.edge_play.proofs.Results.{none-from}
 use Rattle.edge_play.proofs.Readiness.{ready-appended, ready-same}
-use Rattle.edge_play.proofs.Turning.{may-follow, whose-entry, answered-stands, IsStop, stopped-stands, never-begun}
+use Rattle.cache_types.proofs.Following.{may-follow}
+use Rattle.edge_play.proofs.Turning.{whose-entry, answered-stands, IsStop, stopped-stands, never-begun}
 
 -- the seat at a place stands
 pub stands-at : (past : List Entry) (place : ℕ) (seats : List Seat) → AllStand past seats → place < length seats → SeatStands past (seat_at seats place)

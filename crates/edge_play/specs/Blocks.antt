@@ -8,7 +8,7 @@ use Rattle.cache_types.specs.declared.outer.Event.TheVariants as event
 use Rattle.cache_types.specs.declared.outer.Done.{Done}
 use Rattle.cache_types.specs.Entries.{newest_first, is_begin, is_end}
 use Rattle.cache_types.specs.Limits.{is_within_limits}
-use Rattle.call_lines.specs.declared.line.Line.{Line}
+use Rattle.script_lines.specs.declared.line.Line.{Line}
 use Rattle.edge_play.specs.Script.{value_of, next_call}
 
 -- a guest's own entries; `past` has the newest first, and so has this

@@ -5,8 +5,8 @@ use Rattle.cache_types.specs.declared.entries.Entry.{Entry}
 use Rattle.cache_types.specs.declared.outer.Outcome.{Outcome}
 use Rattle.cache_types.specs.declared.outer.Outcome.TheVariants as outcome
 use Rattle.cache_types.specs.declared.outer.Done.{Done}
-use Rattle.call_lines.specs.declared.line.Line.{Line}
-use Rattle.edge_journal.specs.declared.run.Step.{Step}
+use Rattle.script_lines.specs.declared.line.Line.{Line}
+use Rattle.script_lines.specs.declared.step.Step.{Step}
 use Rattle.edge_play.specs.Schedule.{Turn, World, seat_at, turned, start_of, closed, blocks_from}
 
 -- the world with this turn at the place

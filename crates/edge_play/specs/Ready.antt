@@ -1,6 +1,6 @@
 -- Guests that may go on: what every step of a schedule keeps.
 use Rattle.std.specs.Prelude.{◌≡◌, ◌≢◌, ◌⊎◌, ℕ, ◌≤◌, true, List, [], ◌∷◌, length, map, IsTrue, Option, None, Some, is_some}
-use Rattle.call_lines.specs.declared.line.Line.{Line}
+use Rattle.script_lines.specs.declared.line.Line.{Line}
 use Rattle.cache_types.specs.declared.entries.Entry.{Entry}
 use Rattle.cache_types.specs.declared.outer.Outcome.{Outcome}
 use Rattle.cache_types.specs.Entries.{is_live, newest_first}

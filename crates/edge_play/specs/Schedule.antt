@@ -11,8 +11,8 @@ use Rattle.cache_types.specs.declared.outer.Event.TheVariants as event
 use Rattle.cache_types.specs.declared.outer.Done.{Done}
 use Rattle.cache_types.specs.Entries.{newest_first, is_begin, is_end, is_not_yet}
 use Rattle.cache_types.specs.Step.{entry_after, reply_after, is_full}
-use Rattle.call_lines.specs.declared.line.Line.{Line}
-use Rattle.edge_journal.specs.declared.run.Step.{Step}
+use Rattle.script_lines.specs.declared.line.Line.{Line}
+use Rattle.script_lines.specs.declared.step.Step.{Step}
 use Rattle.edge_play.specs.Script.{value_of, next_call}
 
 -- a guest of the schedule: its lines, its name (0 before its Begin), its entries' numbers and

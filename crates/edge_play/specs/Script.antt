@@ -4,10 +4,10 @@ use Rattle.cache_types.specs.declared.calls.CacheCall.{CacheCall}
 use Rattle.cache_types.specs.declared.calls.CacheCall.TheVariants.{Begin, End}
 use Rattle.cache_types.specs.declared.replies.Reply.{Reply}
 use Rattle.cache_types.specs.declared.replies.Reply.TheVariants.{Got, Made}
-use Rattle.call_lines.specs.declared.line.Named.{Named}
-use Rattle.call_lines.specs.declared.line.Named.TheVariants as named
-use Rattle.call_lines.specs.declared.line.Line.{Line}
-use Rattle.call_lines.specs.Lines.{with_name}
+use Rattle.script_lines.specs.declared.line.Named.{Named}
+use Rattle.script_lines.specs.declared.line.Named.TheVariants as named
+use Rattle.script_lines.specs.declared.line.Line.{Line}
+use Rattle.script_lines.specs.Names.{with_name}
 
 abbrev pub is_got_or_made : Reply → Bool
 is_got_or_made (Got bits hit) = true

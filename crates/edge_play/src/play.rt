@@ -1,3 +1,5 @@
+//! Plays scripted guests by a schedule: all steps, and then the close.
+
 ghost use Rattle.std.specs.Prelude.{◌≡◌, ◌-◌, ◌<◌, [], true, false, length, map, IsTrue, IfOk, OnOk, is_some};
 ghost use Rattle.std.specs.List.{list_all};
 ghost use Rattle.cache_types.specs.Entries.{newest_first};
@@ -10,7 +12,7 @@ ghost use Rattle.edge_play.specs.Ready.{SeatStands, IsReady, AllOver, scripts_of
 use crate::player::Player;
 use crate::turns::{stop, turn};
 use cache_types::{Done, Event, Items, OneCache, Outcome};
-use edge_journal::{Lines, Step};
+use script_lines::{Lines, Step};
 use std::alloc::{AllocError, Global};
 
 /// One step of the schedule.

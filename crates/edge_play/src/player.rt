@@ -1,8 +1,10 @@
+//! A scripted guest between two steps.
+
 ghost use Rattle.std.specs.Prelude.{◌≡◌};
 ghost use Rattle.edge_play.specs.Schedule.{new_seat};
 
 use cache_types::Outcome;
-use edge_journal::Lines;
+use script_lines::Lines;
 use std::alloc::Global;
 use std::marker::Model;
 

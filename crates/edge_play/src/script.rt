@@ -1,9 +1,10 @@
+//! The next call of a scripted guest, from its lines and the numbers of its entries.
+
 ghost use Rattle.std.specs.Prelude.{◌≡◌, IfOk};
 ghost use Rattle.edge_play.specs.Script.{is_got_or_made, value_of, name_in, call_of, line_call, next_call};
 
 use cache_types::{CacheCall, Copied, Reply};
-use call_lines::{Line, Named, with_name};
-use edge_journal::Lines;
+use script_lines::{Line, Lines, Named, with_name};
 use std::alloc::{AllocError, Global};
 
 fn is_got_or_made(reply: &Reply) -> bool

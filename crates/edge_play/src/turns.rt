@@ -1,3 +1,5 @@
+//! One step of a guest: one try of its next call, and what follows from the answer.
+
 ghost use Rattle.std.specs.Prelude.{◌≡◌, ◌++◌, ◌∷◌, [], ◌||◌, not, IfOk, OnOk, OnErr, IsTrue, Ok, Err, Some, None, is_some};
 ghost use Rattle.cache_types.specs.declared.entries.StepFault.{StepFault};
 ghost use Rattle.cache_types.specs.Entries.{newest_first, is_begin, is_end, is_not_yet};

@@ -4,10 +4,10 @@ use Rattle.cache_types.specs.declared.entries.Entry.{Entry}
 use Rattle.cache_types.specs.declared.outer.Done.{Done}
 use Rattle.cache_types.specs.Legal.{IsLegal}
 use Rattle.cache_types.specs.Laws.{IsLawful}
-use Rattle.edge_journal.specs.declared.run.Run.{Run}
-use Rattle.edge_journal.specs.Run.{IsRun, run_text, most_bytes}
-use Rattle.edge_journal.specs.Begins.{IsFirstBad}
-use Rattle.edge_journal.specs.Journal.{journal_bytes}
+use Rattle.run_files.specs.declared.run.Run.{Run}
+use Rattle.run_files.specs.Run.{IsRun, run_text, most_bytes}
+use Rattle.run_files.specs.Begins.{IsFirstBad}
+use Rattle.journal_writer.specs.Journal.{journal_bytes}
 use Rattle.edge_play.specs.Blocks.{HasBlocks}
 use Rattle.edge_play.specs.Schedule.{IsPlayed}
 use Rattle.edge_play.specs.OneResult.{IsOneResult, one_wanted}

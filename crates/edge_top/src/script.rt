@@ -2,7 +2,7 @@ ghost use Rattle.std.specs.Prelude.{◌≡◌, ◌≤◌, ℕ, List, Result, Ok,
 ghost use Rattle.edge_outside.specs.declared.fault.Failed.{Failed};
 ghost use Rattle.edge_outside.specs.declared.fault.IoFault.{IoFault};
 ghost use Rattle.edge_outside.specs.Faults.{Rose};
-ghost use Rattle.edge_journal.specs.Run.{IsRun};
+ghost use Rattle.run_files.specs.Run.{IsRun};
 ghost use Rattle.edge_top.specs.Script.{IsJournalOf, IsRunFile, AfterFile, ScriptGives};
 ghost use Rattle.edge_top.specs.Exit.{IsWorked};
 ghost use Rattle.edge_top.specs.Commands.{Reads};
@@ -10,9 +10,10 @@ ghost use Rattle.edge_top.specs.Commands.{Reads};
 use crate::exit::Exit;
 use cache_plain::PlainCache;
 use cache_types::{Octets, OneCache};
-use edge_journal::{Run, RunFault, journal_text, read_run};
 use edge_outside::{Files, IoFault, Sink};
 use edge_play::play_scripts;
+use journal_writer::journal_text;
+use run_files::{Run, RunFault, read_run};
 use std::alloc::{AllocError, Global};
 
 /// The greatest number of entries and live guests.

@@ -1,3 +1,5 @@
+//! Words that say one of a few things.
+
 ghost use Rattle.std.specs.Prelude.{◌≡◌};
 ghost use Rattle.edge_words.specs.Reading.{Gives, one};
 ghost use Rattle.edge_words.specs.Choices.{alone, exactly, number_or};

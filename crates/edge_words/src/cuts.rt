@@ -1,3 +1,5 @@
+//! Cuts bytes at a separator.
+
 ghost use Rattle.std.specs.Prelude.{◌≡◌, ◌<◌, ◌∷◌, ◌==◌, [], length, IfSome, MatchOption, position};
 ghost use Rattle.edge_words.specs.Reading.{parts_at};
 

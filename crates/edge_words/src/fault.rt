@@ -1,3 +1,5 @@
+//! Why a line was not read.
+
 ghost use Rattle.std.specs.Prelude.{◌≡◌};
 ghost use Rattle.edge_words.specs.declared.fault.LineFault.TheVariants.{OutOfMemory};
 

@@ -17,6 +17,3 @@ pub use fault::LineFault;
 pub use text::Text;
 pub use word::{read_hex, read_number, spell_hex};
 pub use words::Words;
-
-#[cfg(test)]
-mod tests;

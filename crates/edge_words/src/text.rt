@@ -1,3 +1,5 @@
+//! Writes a text word by word.
+
 ghost use Rattle.std.specs.Prelude.{◌≡◌, ◌++◌, ◌∷◌, [], IfOk, decimal};
 ghost use Rattle.edge_words.specs.Words.{spaced, hex_word};
 

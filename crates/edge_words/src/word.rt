@@ -1,3 +1,5 @@
+//! Single words: numbers, and bytes in hexadecimal.
+
 ghost use Rattle.std.specs.Prelude.{◌≡◌, ◌<◌, ◌^◌, ℕ, List, Some, IfOk, IfSome, decimal, string_bytes};
 ghost use Rattle.hex.specs.Hex.{IsBytes};
 ghost use Rattle.edge_words.specs.Words.{hex_word};

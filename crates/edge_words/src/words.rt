@@ -1,3 +1,5 @@
+//! Reads a line word by word.
+
 ghost use Rattle.std.specs.Prelude.{◌≡◌, ◌≤◌, IfOk};
 ghost use Rattle.std.specs.Option.{option_map};
 ghost use Rattle.edge_words.specs.Words.{line_of};

@@ -1,5 +1,5 @@
 use Rattle.std.proofs.Common.{◌∙◌}
-use Rattle.edge_journal.proofs.JournalExact.{is_journal, same_value, no_line}
+use Rattle.journal_reader.proofs.Found.{is_journal, same_value, no_line}
 use Rattle.edge_journal.proofs.relying.written_and_read.Goals as goal
 
 pub journal_text-requires : goal.journal_text-requires

@@ -1,0 +1,4 @@
+pub mod Texts
+pub mod Machines
+pub mod Again
+pub mod Found
