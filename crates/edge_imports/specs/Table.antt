@@ -4,6 +4,7 @@ use Rattle.std.specs.List.{find}
 use Rattle.wasm_types.specs.declared.types.ValueType.{ValueType}
 use Rattle.wasm_types.specs.declared.types.ValueType.TheVariants.{I32, I64}
 use Rattle.edge_imports.specs.declared.hostcall.Hostcall.{Hostcall}
+use Rattle.edge_imports.specs.declared.find.TheConstants.{HOSTCALLS}
 use Rattle.edge_imports.specs.declared.hostcall.Hostcall.TheVariants.{AbiInit, BodyNew, BodyAppend, BodyRead, BodyWrite, BodyClose, BodyAbandon, BodyKnownLength, RequestNew, RequestClose, RequestHeaderNamesGet, RequestHeaderValueGet, RequestHeaderValuesGet, RequestHeaderValuesSet, RequestHeaderInsert, RequestHeaderAppend, RequestHeaderRemove, RequestVersionGet, RequestVersionSet, RequestBodyDownstreamGet, RequestMethodGet, RequestMethodSet, RequestUriGet, RequestUriSet, ResponseNew, ResponseClose, ResponseHeaderNamesGet, ResponseHeaderValueGet, ResponseHeaderValuesGet, ResponseHeaderValuesSet, ResponseHeaderInsert, ResponseHeaderAppend, ResponseHeaderRemove, ResponseVersionGet, ResponseVersionSet, ResponseStatusGet, ResponseStatusSet, ResponseSendDownstream, DictionaryOpen, DictionaryGet, ConfigStoreOpen, ConfigStoreGet, SecretStoreOpen, SecretStoreGet, SecretStorePlaintext, LogEndpointGet, LogWrite, CacheLookup, CacheInsert, CacheTransactionLookup, CacheTransactionLookupAsync, CacheBusyHandleWait, CacheCloseBusy, CacheTransactionInsert, CacheTransactionInsertAndStreamBack, CacheTransactionUpdate, CacheTransactionCancel, CacheClose, CacheGetState, CacheGetUserMetadata, CacheGetLength, CacheGetMaxAgeNs, CacheGetStaleWhileRevalidateNs, CacheGetAgeNs, CacheGetBody, PurgeSurrogateKey, WasiProcExit, WasiFdWrite, WasiRandomGet, WasiClockTimeGet, WasiEnvironSizesGet, WasiArgsSizesGet, WasiEnvironGet, WasiArgsGet}
 
 pub record Row : Type 0 where
@@ -122,14 +123,9 @@ row_of WasiArgsSizesGet = wasi (codes "args_sizes_get") 2
 row_of WasiEnvironGet = wasi (codes "environ_get") 2
 row_of WasiArgsGet = wasi (codes "args_get") 2
 
--- all of them
-abbrev pub all_calls : List Hostcall
-all_calls =
-    AbiInit ∷ (BodyNew ∷ (BodyAppend ∷ (BodyRead ∷ (BodyWrite ∷ (BodyClose ∷ (BodyAbandon ∷ (BodyKnownLength ∷ (RequestNew ∷ (RequestClose ∷ (RequestHeaderNamesGet ∷ (RequestHeaderValueGet ∷ (RequestHeaderValuesGet ∷ (RequestHeaderValuesSet ∷ (RequestHeaderInsert ∷ (RequestHeaderAppend ∷ (RequestHeaderRemove ∷ (RequestVersionGet ∷ (RequestVersionSet ∷ (RequestBodyDownstreamGet ∷ (RequestMethodGet ∷ (RequestMethodSet ∷ (RequestUriGet ∷ (RequestUriSet ∷ (ResponseNew ∷ (ResponseClose ∷ (ResponseHeaderNamesGet ∷ (ResponseHeaderValueGet ∷ (ResponseHeaderValuesGet ∷ (ResponseHeaderValuesSet ∷ (ResponseHeaderInsert ∷ (ResponseHeaderAppend ∷ (ResponseHeaderRemove ∷ (ResponseVersionGet ∷ (ResponseVersionSet ∷ (ResponseStatusGet ∷ (ResponseStatusSet ∷ (ResponseSendDownstream ∷ (DictionaryOpen ∷ (DictionaryGet ∷ (ConfigStoreOpen ∷ (ConfigStoreGet ∷ (SecretStoreOpen ∷ (SecretStoreGet ∷ (SecretStorePlaintext ∷ (LogEndpointGet ∷ (LogWrite ∷ (CacheLookup ∷ (CacheInsert ∷ (CacheTransactionLookup ∷ (CacheTransactionLookupAsync ∷ (CacheBusyHandleWait ∷ (CacheCloseBusy ∷ (CacheTransactionInsert ∷ (CacheTransactionInsertAndStreamBack ∷ (CacheTransactionUpdate ∷ (CacheTransactionCancel ∷ (CacheClose ∷ (CacheGetState ∷ (CacheGetUserMetadata ∷ (CacheGetLength ∷ (CacheGetMaxAgeNs ∷ (CacheGetStaleWhileRevalidateNs ∷ (CacheGetAgeNs ∷ (CacheGetBody ∷ (PurgeSurrogateKey ∷ (WasiProcExit ∷ (WasiFdWrite ∷ (WasiRandomGet ∷ (WasiClockTimeGet ∷ (WasiEnvironSizesGet ∷ (WasiArgsSizesGet ∷ (WasiEnvironGet ∷ (WasiArgsGet ∷ [])))))))))))))))))))))))))))))))))))))))))))))))))))))))))))))))))))))))))
-
 abbrev pub is_named : List ℕ → List ℕ → Hostcall → Bool
 is_named from name call = bytes_eq (row_of call).module_name from && bytes_eq (row_of call).name name
 
 -- the call of this module and name
 unfoldable pub call_named : List ℕ → List ℕ → Option Hostcall
-call_named from name = find (is_named from name) all_calls
+call_named from name = find (is_named from name) HOSTCALLS

@@ -2,12 +2,12 @@
 
 ghost use Rattle.std.specs.Prelude.{◌≡◌};
 ghost use Rattle.std.specs.List.{find};
-ghost use Rattle.edge_imports.specs.Table.{all_calls, is_named, call_named};
+ghost use Rattle.edge_imports.specs.Table.{is_named, call_named};
 
 use crate::hostcall::Hostcall;
 
-/// All calls, in the order of the table.
-const ALL: [Hostcall; 74] = [
+/// All calls, in the order of the table. The definition of what an import names goes over this list.
+pub const HOSTCALLS: [Hostcall; 74] = [
     Hostcall::AbiInit,
     Hostcall::BodyNew,
     Hostcall::BodyAppend,
@@ -96,12 +96,10 @@ fn is_named(from: &[u8], name: &[u8], call: Hostcall) -> bool
 fn find(calls: &[Hostcall], from: &[u8], name: &[u8]) -> Option<Hostcall>
     ensures { result ≡ find (is_named from.now name.now) calls.now }
 {
-    for call in calls {
-        if is_named(from, name, *call) {
-            return Some(*call);
-        }
-    }
-    None
+    calls
+        .iter()
+        .copied()
+        .find(|call| is_named(from, name, *call))
 }
 
 /// The call that is imported by this module and name.
@@ -109,5 +107,5 @@ fn find(calls: &[Hostcall], from: &[u8], name: &[u8]) -> Option<Hostcall>
 pub fn call_named(from: &[u8], name: &[u8]) -> Option<Hostcall>
     ensures { result ≡ call_named from.now name.now }
 {
-    find(&ALL, from, name)
+    find(&HOSTCALLS, from, name)
 }

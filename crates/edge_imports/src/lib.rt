@@ -11,7 +11,7 @@ mod table;
 mod text;
 mod types;
 
-pub use find::call_named;
+pub use find::{HOSTCALLS, call_named};
 pub use hostcall::Hostcall;
 pub use laws::each_call_is_named;
 pub use linked::{Linked, link};
