@@ -1,3 +1,5 @@
+//! That values with lists inside are compared and copied.
+
 use super::*;
 use std::test::Fail;
 
