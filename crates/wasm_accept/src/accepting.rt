@@ -1,3 +1,5 @@
+//! Bytes that are read, and then validated.
+
 ghost use Rattle.std.specs.Prelude.{IfOk, IfErr, List, ℕ};
 ghost use Rattle.wasm_types.specs.declared.modules.Module.{Module};
 ghost use Rattle.wasm_reader.specs.Grammar.{IsModule};

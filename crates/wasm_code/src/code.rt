@@ -1,3 +1,5 @@
+//! An expression by itself (section 5.4.6).
+
 ghost use Rattle.std.specs.Prelude.{◌≡◌, ◌⊎◌, ◌+◌, ◌≤◌, List, ℕ, Ok, IfOk, IfErr, length, slice_range};
 ghost use Rattle.wasm_types.specs.declared.instructions.Instr.{Instr};
 ghost use Rattle.wasm_code.specs.Grammar.{IsExpression};

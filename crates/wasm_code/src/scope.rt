@@ -1,3 +1,5 @@
+//! How far reading may go, and the places of faults.
+
 ghost use Rattle.std.specs.Prelude.{◌≡◌};
 ghost use Rattle.wasm_code.specs.Reading.{fault_at, short_of};
 

@@ -1,3 +1,5 @@
+//! Expressions whose instructions or faults come from outside the reader.
+
 use std::test::Fail;
 use wasm_code::*;
 use wasm_types::Instr;

@@ -1,4 +1,5 @@
 //! Two tables of labels, compared.
+
 use std::test::Fail;
 use wasm_types::*;
 

@@ -1,3 +1,5 @@
+//! Instructions (section 2.4).
+
 use crate::types::ValueType;
 use crate::values::Value;
 use items::Items;

@@ -1,3 +1,5 @@
+//! Modules and their parts (section 2.5).
+
 use crate::instructions::Instr;
 use crate::types::{FuncType, GlobalType, Limits, ValueType};
 use items::Items;

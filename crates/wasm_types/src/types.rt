@@ -1,3 +1,5 @@
+//! Types (section 2.3).
+
 use items::Items;
 
 /// A number type without floating point (section 2.3.1).

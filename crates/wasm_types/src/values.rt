@@ -1,3 +1,5 @@
+//! Numbers as the machine has them (section 4.2.1), and why it stops.
+
 use items::Items;
 
 /// A number as its bits, not as a signed one (section 2.2.2).

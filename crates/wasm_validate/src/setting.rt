@@ -1,3 +1,5 @@
+//! What code stands in (section 3.1.1).
+
 ghost use Rattle.std.specs.Prelude.{◌≡◌};
 ghost use Rattle.wasm_validate.specs.Rules.{Setting as Stands, type_at, function_at, local_at, global_at, some_table, some_memory};
 ghost use Rattle.wasm_validate.specs.Steps.{Gives};

@@ -1,3 +1,5 @@
+//! The stacks of the check (section 7.3).
+
 ghost use Rattle.std.specs.Prelude.{◌≡◌, List, [], ◌∷◌, length, slice_get, OnOk};
 ghost use Rattle.std.specs.Option.{option_copied};
 ghost use Rattle.wasm_validate.specs.Lists.{head_of, tail_of, is_nil};

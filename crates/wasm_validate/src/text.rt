@@ -1,3 +1,5 @@
+//! The texts of faults.
+
 ghost use Rattle.std.specs.Prelude.{◌≡◌, ◌++◌, IfOk, string_bytes, codes, decimal};
 ghost use Rattle.wasm_validate.specs.Text.{kind_name, part_name, fault_text};
 

@@ -1,3 +1,5 @@
+//! Modules with indices that name something, or nothing.
+
 use super::told;
 use std::test::Fail;
 

@@ -1,3 +1,5 @@
+//! Modules with code that is never reached.
+
 use super::told;
 use std::test::Fail;
 

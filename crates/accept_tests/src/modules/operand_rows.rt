@@ -1,3 +1,5 @@
+//! Modules whose operands fit, or not.
+
 use super::told;
 use std::test::Fail;
 

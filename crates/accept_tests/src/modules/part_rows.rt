@@ -1,3 +1,5 @@
+//! Modules whose other parts are right, or not.
+
 use super::told;
 use std::test::Fail;
 
