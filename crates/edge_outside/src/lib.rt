@@ -6,11 +6,16 @@
 //! clause above can tell how many calls were made and which. What an object holds is told where it can be known, as in
 //! memory, and the clauses on it hold where it is told.
 //!
+//! Several calls one after another are a list, each with what was asked and what was answered: `specs/Made.antt` says that
+//! these were made, in this order and no others, of any kind of call.
+//!
 //! The fakes in memory stand here too. Each fails at the calls that it is told, counted from 1.
 #![tactic(auto)]
 
 mod fault;
 mod files;
+mod in_order;
+mod laws;
 mod link;
 mod mem_files;
 mod mem_sink;
@@ -23,6 +28,8 @@ mod source;
 
 pub use fault::{Failed, IoFault};
 pub use files::Files;
+pub use in_order::read_all;
+pub use laws::{reads_are_shown, writes_are_shown};
 pub use link::Link;
 pub use mem_files::{MemFiles, NamedFile};
 pub use mem_sink::MemSink;
