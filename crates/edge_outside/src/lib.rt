@@ -38,6 +38,3 @@ pub use no_link::NoLink;
 pub use null_sink::NullSink;
 pub use sink::Sink;
 pub use source::Source;
-
-#[cfg(test)]
-mod tests;

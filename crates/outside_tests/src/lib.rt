@@ -1,0 +1,5 @@
+//! What is tested of the outside: the fakes in memory. It stands apart, so that the crate below is proved once.
+#![tactic(auto)]
+
+#[cfg(test)]
+mod fakes;
