@@ -1,6 +1,6 @@
 -- One try, from what a step tells.
-use Rattle.std.specs.Prelude.{◌≡◌, ℕ, Bool, true, false, not, ◌||◌, List, [], ◌∷◌, ◌++◌, refl, IsTrue}
-use Rattle.std.proofs.Common.{ap, sym, ◌∙◌, subst}
+use Rattle.std.specs.Prelude.{◌≡◌, ℕ, Bool, true, false, not, ◌||◌, List, [], ◌∷◌, ◌++◌, refl, IsTrue, is_some, Option, Some, None, if◌then◌else◌}
+use Rattle.std.proofs.Common.{ap, sym, ◌∙◌, subst, inl, inr}
 use Rattle.std.proofs.lemmas.Bool.{not-true}
 use Rattle.std.proofs.lemmas.List.{reverse-append}
 use Rattle.cache_types.specs.declared.calls.CacheCall.{CacheCall}
@@ -8,10 +8,12 @@ use Rattle.cache_types.specs.declared.calls.CacheCall.TheVariants.{Begin}
 use Rattle.cache_types.specs.declared.entries.Entry.{Entry}
 use Rattle.cache_types.specs.declared.entries.Stepped.{Stepped}
 use Rattle.cache_types.specs.declared.replies.Reply.TheVariants.{NotYet}
+use Rattle.cache_types.specs.declared.outer.Outcome.{Outcome}
 use Rattle.cache_types.specs.declared.outer.Outcome.TheVariants as outcome
 use Rattle.cache_types.specs.Entries.{newest_first, is_not_yet, next_number}
 use Rattle.cache_types.specs.Step.{guest_of, entry_after, reply_after, stepped, history_after, is_full}
-use Rattle.edge_play.specs.Schedule.{Seat, AreAfter, noted, named_by, outcome_after, answered, stopped, tried}
+use Rattle.edge_play.specs.Script.{next_call}
+use Rattle.edge_play.specs.Schedule.{Seat, AreAfter, noted, named_by, outcome_after, answered, stopped, tried, unchanged, asked, turned, may_want, MayTry, MayTurn, Turn}
 
 -- the guest of an entry
 pub guest_of-named : (past : List Entry) (guest : ℕ) (call : CacheCall) → guest_of past guest call ≡ named_by guest (next_number past) call
@@ -51,3 +53,10 @@ pub full-turn : (most : ℕ) (past kept after : List Entry) (seat moved : Seat) 
 full-turn most past kept after seat moved reading call same full answered turn =
     let yes : is_not_yet (reply_after past seat.guest reading call) ≡ false = not-true (is_not_yet (reply_after past seat.guest reading call)) answered in
     rw (yes, full) (subst (λ entries. AreAfter after moved (stopped entries seat reading outcome.HistoryFull)) same turn)
+
+-- a try of the next call of a guest that goes on is its turn
+pub try-turn : (most reading : ℕ) (past after : List Entry) (seat moved : Seat) (call : CacheCall) → seat.outcome ≡ None → next_call seat.script seat.values ≡ Some call → MayTry most reading past seat call after moved → MayTurn most reading past seat after moved
+try-turn most reading past after seat moved call on is (inl turn) =
+    let goes : turned most reading past seat ≡ asked most past seat reading (next_call seat.script seat.values) = ap (λ (o : Option Outcome). if is_some o then unchanged past seat else asked most past seat reading (next_call seat.script seat.values)) on in
+    inl (subst (λ (t : Turn). AreAfter after moved t) (sym (goes ∙ ap (asked most past seat reading) is)) turn)
+try-turn most reading past after seat moved call on is (inr want) = inr (ap is_some on, (subst (λ (o : Option CacheCall). IsTrue (may_want o)) (sym is) want.0, want.1))
