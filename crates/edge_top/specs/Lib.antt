@@ -1,5 +1,9 @@
 pub mod Exit
 pub mod Words
+pub mod Command
+pub mod Worked
 pub mod Script
 pub mod Check
-pub mod Commands
+pub mod Does
+pub mod Several
+pub mod Parts

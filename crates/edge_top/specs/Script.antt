@@ -1,5 +1,5 @@
--- What `script` does with the bytes that it read, told apart from the sink that it is given.
-use Rattle.std.specs.Prelude.{◌≡◌, ◌≤◌, ℕ, false, List, length}
+-- What `script` works out from the bytes that it read.
+use Rattle.std.specs.Prelude.{◌≡◌, ◌≤◌, ℕ, false, List, length, Ok, Err}
 use Rattle.cache_types.specs.declared.entries.Entry.{Entry}
 use Rattle.cache_types.specs.declared.outer.Done.{Done}
 use Rattle.cache_types.specs.Legal.{IsLegal}
@@ -11,9 +11,8 @@ use Rattle.journal_writer.specs.Journal.{journal_bytes}
 use Rattle.edge_play.specs.Blocks.{HasBlocks}
 use Rattle.edge_play.specs.Schedule.{IsPlayed}
 use Rattle.edge_play.specs.OneResult.{IsOneResult, one_wanted}
-use Rattle.edge_top.specs.declared.exit.Exit.{Exit}
 use Rattle.edge_top.specs.declared.exit.Exit.TheVariants as exit
-use Rattle.edge_top.specs.Exit.{IsWorked}
+use Rattle.edge_top.specs.Worked.{Worked, HasText}
 
 -- the greatest number of entries and live guests in every command
 abbrev pub most_entries : ℕ
@@ -44,24 +43,20 @@ pub record IsRunFile (bytes : List ℕ) (run : Run) : Type 0 where
   pub fits : IsRun run
   pub spelled : bytes ≡ run_text run
 
--- a journal of the run that the file holds was written at once
-pub record Writes (written : List ℕ → Type 0) (bytes : List ℕ) : Type 0 where
+-- the text is a journal of the run that the bytes spell
+pub record IsJournalFrom (bytes text : List ℕ) : Type 0 where
   pub run : Run
   pub file : IsRunFile bytes run
-  pub text : List ℕ
   pub journal : IsJournalOf most_entries run text
-  pub write : written text
 
--- what an exit says of the file's bytes and of the sink: `wrote` and `failed` say of a text that
--- one write of it was made, `untouched` that no write was made
-abbrev pub AfterFile : (List ℕ → Type 0) → (List ℕ → Type 0) → Type 0 → List ℕ → Exit → Type 0
-AfterFile wrote failed untouched bytes exit.Ok = Writes wrote bytes
-AfterFile wrote failed untouched bytes exit.WriteFault = Writes failed bytes
-AfterFile wrote failed untouched bytes (exit.RunBad line) = IsFirstBad bytes line × untouched
-AfterFile wrote failed untouched bytes exit.OutOfMemory = untouched
-AfterFile wrote failed untouched bytes _ = ⊥
+-- what `script` works out from the bytes of its file
+abbrev pub IsScripted : List ℕ → Worked → Type 0
+IsScripted bytes (Ok text) = IsJournalFrom bytes text
+IsScripted bytes (Err (exit.RunBad line)) = IsFirstBad bytes line
+IsScripted bytes (Err exit.OutOfMemory) = Unit {0}
+IsScripted bytes (Err _) = ⊥
 
 -- and a run file is not refused
-pub record ScriptGives (wrote failed : List ℕ → Type 0) (untouched : Type 0) (bytes : List ℕ) (ended : Exit) : Type 0 where
-  pub after : AfterFile wrote failed untouched bytes ended
-  pub complete : (run : Run) → IsRunFile bytes run → IsWorked ended
+pub record Scripts (bytes : List ℕ) (worked : Worked) : Type 0 where
+  pub is : IsScripted bytes worked
+  pub complete : (run : Run) → IsRunFile bytes run → HasText worked

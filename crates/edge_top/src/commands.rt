@@ -1,15 +1,50 @@
-ghost use Rattle.std.specs.Prelude.{◌≡◌, ℕ, List, Result, Ok, Err, codes};
-ghost use Rattle.edge_outside.specs.declared.fault.Failed.{Failed};
-ghost use Rattle.edge_outside.specs.Faults.{Rose};
-ghost use Rattle.edge_top.specs.Words.{words_of, operand_of};
-ghost use Rattle.edge_top.specs.Commands.{HostGives};
+//! What a command reads, works out and writes, and how it ends.
 
-use crate::check::check_module;
+ghost use Rattle.std.specs.Prelude.{◌≡◌, ◌≢◌, ◌<◌, List, Some, Ok, length, IfOk, IsErrOf};
+ghost use Rattle.edge_outside.specs.Faults.{Rose};
+ghost use Rattle.edge_outside.specs.Files.{Read, IsRead};
+ghost use Rattle.edge_outside.specs.Made.{Made};
+ghost use Rattle.edge_outside.specs.Sink.{Write, IsWrite};
+ghost use Rattle.edge_top.specs.Words.{words_of};
+ghost use Rattle.edge_top.specs.Command.{command_of, named};
+ghost use Rattle.edge_top.specs.Does.{Works, Writes, Does};
+
+use crate::check::check_text;
+use crate::command::{Command, command_of};
 use crate::exit::Exit;
-use crate::script::run_script;
-use crate::words::operand_of;
+use crate::script::script_text;
+use cache_types::Octets;
 use edge_outside::{Files, Link, Sink};
 use std::alloc::Global;
+
+// What the command is to write, or how it ends without that. There is no sink here, so nothing is
+// written before all was read and worked out.
+fn text_of<F: Files>(alloc: Global, command: Command<'_>, files: &mut F) -> Result<Octets, Exit>
+    ensures works { (reads : List Read) × (Made (IsRead F.reads F.content) files.old reads files.new
+        × Works (Some (named command.entry)) reads result) }
+    ensures some { IfOk result (λ text. 0 < length text) }
+    ensures no_write_fault { ¬ IsErrOf result Exit.WriteFault }
+    ensures read_fault { IsErrOf result Exit.ReadFault → Rose (F.faults files.old) (F.faults files.new) }
+{
+    match command {
+        Command::Script(name) => script_text(alloc, files.read(alloc, name)?.as_slice()),
+        Command::Check(name) => check_text(alloc, files.read(alloc, name)?.as_slice()),
+    }
+}
+
+// Writes the text in one piece.
+fn write_text<K: Sink>(text: &[u8], out: &mut K) -> Exit
+    requires { 0 < length text.now }
+    ensures writes { (writes : List Write) × (Made (IsWrite K.writes K.content) out.old writes out.new
+        × Writes (Ok text.now) writes result) }
+    ensures write_fault { result ≡ Exit.WriteFault → Rose (K.faults out.old) (K.faults out.new) }
+    ensures no_read_fault { result ≢ Exit.ReadFault }
+{
+    match out.write(text) {
+        Ok(()) => Exit::Ok,
+        Err(_) => Exit::WriteFault,
+    }
+}
 
 /// Does what the words say. It waits for nobody, and uses no link yet.
 pub fn host<F: Files, K: Sink, L: Link>(
@@ -19,9 +54,12 @@ pub fn host<F: Files, K: Sink, L: Link>(
     out: &mut K,
     link: &mut L,
 ) -> Exit
-    // By cases on the words, on the answer to the one read of the file that they name, and on the
-    // exit: what was read, what was written, and why.
-    ensures gives { HostGives (λ name answer. F.reads files.old name answer files.new) (λ text. K.writes out.old text (Ok tt) out.new) (λ text. (fault : Failed) × K.writes out.old text (Err fault) out.new) (out.new ≡ out.old) (files.new ≡ files.old) (operand_of (codes "script") (words_of words.now)) (operand_of (codes "check") (words_of words.now)) result }
+    // These reads and these writes were made, in this order and no others, and they are what the
+    // command that the words are does.
+    ensures does { (reads : List Read) × (writes : List Write)
+        × Made (IsRead F.reads F.content) files.old reads files.new
+        × Made (IsWrite K.writes K.content) out.old writes out.new
+        × Does (command_of (words_of words.now)) reads writes result }
 
     // A fault comes only where the count of what failed rose in this call.
     ensures read_fault { result ≡ Exit.ReadFault → Rose (F.faults files.old) (F.faults files.new) }
@@ -29,11 +67,11 @@ pub fn host<F: Files, K: Sink, L: Link>(
 
     ensures no_link { link.new ≡ link.old }
 {
-    if let Some(name) = operand_of("script", words) {
-        return run_script(alloc, name, files, out);
-    }
-    match operand_of("check", words) {
-        Some(name) => check_module(alloc, name, files, out),
+    match command_of(words) {
+        Some(command) => match text_of(alloc, command, files) {
+            Ok(text) => write_text(text.bytes(), out),
+            Err(exit) => exit,
+        },
         None => Exit::Usage,
     }
 }

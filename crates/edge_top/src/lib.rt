@@ -2,16 +2,20 @@
 //!
 //! `host` carries the promise of the product: where it exits with Ok, the bytes that it wrote are
 //! the text of one legal history, and of a block for each guest, tied to it and to its program.
+//! The definition to begin with is `specs/Does.antt`; what a command works out from the bytes that
+//! it read is in `specs/Script.antt` and `specs/Check.antt`.
 #![tactic(auto)]
 
 mod check;
+mod command;
 mod commands;
 mod exit;
+mod laws;
 mod script;
-mod words;
 
 pub use commands::host;
 pub use exit::Exit;
+pub use laws::{one_file_is_several, one_write_is_one_part, text_is_added};
 
 #[cfg(test)]
 mod module_tests;
