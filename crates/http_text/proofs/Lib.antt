@@ -1,0 +1,7 @@
+pub mod BodyRuns
+pub mod ChunkFronts
+pub mod ChunkLaws
+pub mod ChunkRuns
+pub mod ChunkTells
+pub mod Digits
+pub mod Lines

@@ -1,0 +1,4 @@
+pub mod Bodies
+pub mod Chunks
+pub mod Fields
+pub mod Lines
