@@ -3,7 +3,6 @@
 ghost use Rattle.std.specs.Prelude.{◌≡◌};
 ghost use Rattle.wasm_code.specs.Reading.{told_of};
 
-
 /// What is wrong at a place. `OutOfMemory` says nothing of the bytes.
 #[derive(Clone, Copy, Debug, PartialEq, Eq)]
 pub enum ReadKind {

@@ -3,7 +3,6 @@
 ghost use Rattle.std.specs.Prelude.{◌≡◌};
 ghost use Rattle.wasm_validate.specs.Faults.{fault_in, halt_in, told_of};
 
-
 /// What is wrong. `OutOfMemory` says nothing of the module.
 #[derive(Clone, Copy, Debug, PartialEq, Eq)]
 pub enum ValidKind {
