@@ -1,10 +1,11 @@
+//! The files of the machine.
+
 ghost use Rattle.std.specs.Prelude.{None};
 
 use edge_outside::{Files, IoFault};
 use std::alloc::Global;
 use std::fs;
 use std::io::Read;
-use std::marker::Model;
 
 /// The greatest size of a file in bytes; a longer one is a fault.
 const MOST_BYTES: usize = 1_073_741_824;
@@ -22,18 +23,18 @@ impl<'a> Disk<'a> {
     }
 }
 
-/// The bytes of an opened file up to its end.
-fn read_whole(alloc: Global, file: &mut fs::File) -> Result<Vec<u8>, IoFault> {
+/// The bytes that a reader has left up to its end, where they are no more than this.
+pub fn read_whole<R: Read>(alloc: Global, reader: &mut R, most: usize) -> Result<Vec<u8>, IoFault> {
     let mut bytes = Vec::new(alloc);
     let mut buffer = [0u8; 4096];
     for _ in 0..u64::MAX {
-        let Ok(count) = file.read(&mut buffer) else {
+        let Ok(count) = reader.read(&mut buffer) else {
             return Err(IoFault::Failed);
         };
         if count == 0 {
             return Ok(bytes);
         }
-        if count > MOST_BYTES - bytes.len().min(MOST_BYTES) {
+        if count > most - bytes.len().min(most) {
             return Err(IoFault::Failed);
         }
         bytes.extend_from_slice(&buffer[..count])?;
@@ -41,9 +42,10 @@ fn read_whole(alloc: Global, file: &mut fs::File) -> Result<Vec<u8>, IoFault> {
     Err(IoFault::Failed)
 }
 
+// The bytes of the file with this name.
 fn read_named(alloc: Global, rt: &HostRuntime, name: &str) -> Result<Vec<u8>, IoFault> {
     match fs::File::open(rt, name) {
-        Ok(mut file) => read_whole(alloc, &mut file),
+        Ok(mut file) => read_whole(alloc, &mut file, MOST_BYTES),
         Err(_) => Err(IoFault::Failed),
     }
 }

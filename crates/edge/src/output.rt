@@ -1,23 +1,27 @@
-ghost use Rattle.std.specs.Prelude.{None};
+//! Standard output, or any other writer, as a sink.
+
+ghost use Rattle.std.specs.Prelude.{None, OnOk};
+ghost use Rattle.std.specs.Io.KnownBytes.{Appends};
 
 use edge_outside::{Failed, Sink};
-use std::io::{self, Write};
+use std::io::Write;
 
-/// Standard output. What it holds is told by no clause.
+/// A writer. What it holds is told where the writer tells it.
 #[derive(Drop)]
-pub struct Output<'a> {
-    rt: &'a HostRuntime,
+pub struct Output<W> {
+    to: W,
     faults: u64,
 }
 
-impl<'a> Output<'a> {
-    pub fn new(rt: &'a HostRuntime) -> Output<'a> {
-        Output { rt, faults: 0 }
+impl<W: Write> Output<W> {
+    pub fn new(to: W) -> Output<W> {
+        Output { to, faults: 0 }
     }
 }
 
-impl<'a> Sink for Output<'a> {
-    ghost writes = { λ before piece answer after. Unit {0} };
+impl<W: Write> Sink for Output<W> {
+    // Where the write is answered with Ok, the writer has the whole piece at its end.
+    ghost writes = { λ before piece answer after. OnOk answer (Appends (W.contents before.to) (W.contents after.to) piece) };
 
     ghost faults = { λ output. output.faults };
 
@@ -25,15 +29,10 @@ impl<'a> Sink for Output<'a> {
 
     fn write(&mut self, bytes: &[u8]) -> Result<(), Failed> {
         let faults = self.faults;
-        if write_whole(self.rt, bytes) {
+        if self.to.write_all(bytes).is_ok() {
             return Ok(());
         }
         self.faults = faults.saturating_add(1);
         Err(Failed)
     }
-}
-
-/// The bytes were all written.
-fn write_whole(rt: &HostRuntime, bytes: &[u8]) -> bool {
-    io::writer(rt).write_all(bytes).is_ok()
 }
