@@ -60,8 +60,11 @@ pub fn chunked_body<S: Source>(
         ahead.pass(used);
         match then {
             AfterChunks::Last(end) => {
+                let Ok(body) = Octets::from_vec(body) else {
+                    return Err(BodyFault::OutOfMemory);
+                };
                 ahead.pass(end);
-                return Ok(Octets::from_vec(body));
+                return Ok(body);
             }
             AfterChunks::Open => {}
             AfterChunks::Over => return Err(BodyFault::TooLarge),

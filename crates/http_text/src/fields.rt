@@ -30,7 +30,7 @@ fn field_at(alloc: Global, bytes: &[u8], header: &HeaderSpan) -> Result<Field, A
     let mut name = Vec::from_slice(alloc, header.name.of(bytes))?;
     name.make_ascii_lowercase();
     Ok(Field {
-        name: Octets::from_vec(name),
+        name: Octets::from_vec(name)?,
         value: Octets::of(alloc, header.value.of(bytes))?,
     })
 }

@@ -19,7 +19,7 @@ returns-in-Last g c =
     let more = chunks_taken c.args.source.now c.args.ahead.now c.loop-used.body.items c.loop-used.ahead c.take_chunks.new.body.items c.pass.new.self c.bytes.result.now c.in-Ok.used c.loop-used.source
     c.loop-used.invariant.reads c.bytes.ensures c.pass.ensures c.in-Ok.ensures.chunks in
     let told = told_as c.bytes.result.now c.loop-used.ahead c.pass.new.self c.in-Ok.used _ c.in-Ok.then _ c.bytes.ensures c.pass.ensures c.in-Ok.ensures.tells c.in-Last.is in
-    rw (c.from_vec.ensures, c.pass-in-Last.ensures) (chunks_end c.args.source.now c.args.ahead.now c.take_chunks.new.body.items c.pass.new.self c.loop-used.source 0 c.in-Last.end
+    rw (c.in-Ok-from_vec.ensures, c.pass-in-Last.ensures) (chunks_end c.args.source.now c.args.ahead.now c.take_chunks.new.body.items c.pass.new.self c.loop-used.source 0 c.in-Last.end
     (grind (arith, common_steps)) more told)
 
 pub returns-in-Over : goal.returns-in-Over
