@@ -1,7 +1,7 @@
 //! The guests, made by the builders.
 
 use std::alloc::{AllocError, Global};
-use wasm_types::{FuncType, Import, Instr, Items, LoadKind, Module, Value, ValueType};
+use wasm_types::{Instr, Items, LoadKind, Module, Value, ValueType};
 use wasm_writer::build::{body, data, export_function, func_type, guest, import_function};
 
 /// The smallest module that is a guest: one function that does nothing, exported as `_start`. Without an import it needs
@@ -44,45 +44,25 @@ fn load() -> Instr {
     }
 }
 
-const WORD: ValueType = ValueType::I32;
-
-// The types of the calls, and of the start: what each takes and gives.
-const TYPES: [(&[ValueType], Option<ValueType>); 5] = [
-    (&[], None),
-    (&[ValueType::I64], Some(WORD)),
-    (&[WORD], Some(WORD)),
-    (&[WORD, WORD, WORD, WORD, WORD], Some(WORD)),
-    (&[WORD, WORD, WORD], Some(WORD)),
-];
-
-// The calls: module, name, and the index of the type.
-const CALLS: [(&str, &str, u32); 5] = [
-    ("fastly_abi", "init", 1),
-    ("fastly_http_resp", "new", 2),
-    ("fastly_http_body", "new", 2),
-    ("fastly_http_body", "write", 3),
-    ("fastly_http_resp", "send_downstream", 4),
-];
-
-fn types(alloc: Global) -> Result<Vec<FuncType>, AllocError> {
-    let mut types = Vec::new(alloc);
-    for (params, gives) in TYPES {
-        types.push(func_type(alloc, params, gives)?)?;
-    }
-    Ok(types)
-}
-
-fn imports(alloc: Global) -> Result<Vec<Import>, AllocError> {
-    let mut imports = Vec::new(alloc);
-    for (module, name, kind) in CALLS {
-        imports.push(import_function(alloc, module, name, kind)?)?;
-    }
-    Ok(imports)
-}
-
-// The response and its body are made, the text is written into the body, and both are sent. A call whose status isn't 0
-// ends the guest, which then has sent nothing.
-fn start(alloc: Global) -> Result<Vec<Instr>, AllocError> {
+/// An answer with the status 200 and the body "hello\n": the response and its body are made, the text is written into
+/// the body, and both are sent. A call whose status isn't 0 ends the guest, which then has sent nothing.
+pub fn hello(alloc: Global) -> Result<Module, AllocError> {
+    let word = ValueType::I32;
+    let status = Some(ValueType::I32);
+    let types = vec![in alloc;
+        func_type(alloc, &[], None)?,
+        func_type(alloc, &[ValueType::I64], status)?,
+        func_type(alloc, &[word], status)?,
+        func_type(alloc, &[word, word, word, word, word], status)?,
+        func_type(alloc, &[word, word, word], status)?,
+    ]?;
+    let imports = vec![in alloc;
+        import_function(alloc, "fastly_abi", "init", 1)?,
+        import_function(alloc, "fastly_http_resp", "new", 2)?,
+        import_function(alloc, "fastly_http_body", "new", 2)?,
+        import_function(alloc, "fastly_http_body", "write", 3)?,
+        import_function(alloc, "fastly_http_resp", "send_downstream", 4)?,
+    ]?;
     let code = vec![in alloc;
         Instr::Block(None),
         Instr::Const(Value::I64(1)),
@@ -111,14 +91,8 @@ fn start(alloc: Global) -> Result<Vec<Instr>, AllocError> {
         Instr::Drop,
         Instr::End,
     ]?;
-    Ok(code)
-}
-
-/// An answer with the status 200 and the body "hello\n".
-pub fn hello(alloc: Global) -> Result<Module, AllocError> {
-    let types = types(alloc)?;
-    let imports = imports(alloc)?;
-    let functions = vec![in alloc; (0, body(alloc, &[], start(alloc)?)?)]?;
+    let start = body(alloc, &[], code)?;
+    let functions = vec![in alloc; (0, start)]?;
     let segments = vec![in alloc; data(alloc, TEXT, HELLO)?]?;
     guest(alloc, types, imports, functions, segments)
 }
