@@ -32,7 +32,7 @@ def processes(seen):
             if key not in seen:
                 with open(f"/proc/{pid}/cmdline") as file:
                     words = file.read().split("\0")
-                seen[key] = {"words": words[:60], "folder": os.readlink(f"/proc/{pid}/cwd"), "seconds": 0}
+                seen[key] = {"words": [it for it in words if it], "folder": os.readlink(f"/proc/{pid}/cwd"), "seconds": 0}
             seen[key]["seconds"] = (int(fields[11]) + int(fields[12])) / HERTZ
         except (OSError, ValueError):
             pass

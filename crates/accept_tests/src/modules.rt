@@ -69,6 +69,23 @@ fn told_of_constants(
 }
 
 #[test]
+fn modules_are_told(rt: HostRuntime) -> Result<(), Fail> {
+    let kinds = [
+        index_rows::ROWS,
+        never_reached_rows::ROWS,
+        operand_rows::ROWS,
+        part_rows::ROWS,
+    ];
+    for rows in kinds {
+        for (bytes, wanted) in rows {
+            let found = told(&rt, bytes)?;
+            assert!(rt; found.as_bytes() == *wanted, "{bytes:?}");
+        }
+    }
+    Ok(())
+}
+
+#[test]
 fn heights(rt: HostRuntime) -> Result<(), Fail> {
     let high = "module: too-high in function 0 at 1024";
     assert!(rt; told_of_height(&rt, 1024, &[])?.as_str() == "ok");

@@ -7,10 +7,10 @@ ghost use Rattle.cache_types.specs.Answer.{finding, lookup_reply, held_reply, fr
 use crate::bodies::{is_abandoned, is_finished, is_made_by, written_len};
 use crate::findings::{Finding, find_with_terms, got};
 use crate::insertions::{Insertion, insertion_at};
-use crate::look::{is_done, is_lookup, object_of, own_entry};
 use crate::parts::part_of;
 use crate::renewals::hit_at;
 use crate::transactions::{goal_of, is_held, is_own_open};
+use cache_log::{is_done, is_lookup, object_of, own_entry};
 use cache_types::{
     CacheCall, Entry, Fields, MOST_OBJECT, Octets, Reply, is_fresh_at, is_usable_at,
 };

@@ -5,8 +5,8 @@ ghost use Rattle.cache_types.specs.Entries.{newest_first};
 ghost use Rattle.cache_types.specs.Objects.{piece_by, piece_of, written, is_finish_of, is_abandon_of, is_finished, is_made_by, ends_maker, abandons, is_abandoned, is_alive};
 
 use crate::insertions::insertion_at;
-use crate::look::{is_done, is_end, is_short};
 use crate::renewals::is_purged;
+use cache_log::{is_done, is_end, is_short};
 use cache_types::{CacheCall, Entry};
 use std::alloc::{AllocError, Global};
 

@@ -4,7 +4,7 @@ ghost use Rattle.std.specs.Prelude.{◌≡◌};
 ghost use Rattle.cache_types.specs.Entries.{newest_first};
 ghost use Rattle.cache_types.specs.Objects.{insertion_by, insertion_of, insertion_at};
 
-use crate::look::{asked_at, is_made};
+use cache_log::{asked_at, is_made};
 use cache_types::{CacheCall, Entry, Fields, Octets, Writing};
 use std::marker::Model;
 

@@ -5,7 +5,6 @@
 #![tactic(auto)]
 
 mod answers;
-mod asked;
 #[tactic(auto, using(crate::proofs::Walks::walks))]
 mod bodies;
 mod findings;
@@ -13,8 +12,6 @@ mod findings;
 mod found;
 #[tactic(auto, using(crate::proofs::Walks::walks))]
 mod insertions;
-#[tactic(auto, using(crate::proofs::Walks::walks))]
-mod look;
 mod parts;
 #[tactic(auto, using(crate::proofs::Walks::walks))]
 mod plain;

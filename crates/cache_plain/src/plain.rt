@@ -18,9 +18,9 @@ pub struct PlainCache {
 
 impl Model for PlainCache {
     ghost use Rattle.std.specs.Prelude.{vec_capacity};
-    ghost use Rattle.cache_plain.specs.Kept.{Plain, IsKept};
+    ghost use Rattle.cache_log.specs.Kept.{Shown, IsKept};
 
-    ghost Value = { Plain };
+    ghost Value = { Shown };
 
     ghost view = { λ cache. record { history = cache.entries.items; most = cache.most } };
 

@@ -4,7 +4,7 @@ ghost use Rattle.std.specs.Prelude.{◌≡◌, not, if◌then◌else◌};
 ghost use Rattle.cache_types.specs.Entries.{newest_first};
 ghost use Rattle.cache_types.specs.Objects.{hit_at, has_key, made_renewal, update_of, renewal_of, last_renewal, has_surrogate, renews, purges, is_softened, is_softened_by, is_purged};
 
-use crate::look::{entry_at, hit_of, is_done, is_made};
+use cache_log::{entry_at, hit_of, is_done, is_made};
 use cache_types::{CacheCall, Entry, Octets, OctetsList, Terms};
 use std::marker::Model;
 

@@ -1,43 +1,16 @@
 //! One step: room, moment, reply and the entry that is appended.
 
-ghost use Rattle.std.specs.Prelude.{◌≡◌, ◌+◌, ◌≤◌, ◌||◌, not, [], ◌∷◌, ◌++◌, length, IsTrue, IsOk, IfOk, OnOk, OnErr, vec_capacity};
-ghost use Rattle.cache_types.specs.Entries.{newest_first, is_begin, is_end, is_not_yet};
-ghost use Rattle.cache_types.specs.Legal.{IsNext};
-ghost use Rattle.cache_types.specs.Step.{IsCaller, MayCall, entry_with, reply_after, live_guests, stepped, history_after, is_full, WouldAppend};
-ghost use Rattle.cache_plain.specs.Kept.{IsKept, HasRoom};
+ghost use Rattle.std.specs.Prelude.{◌≡◌, ◌||◌, not, IsTrue, IsOk, IfOk, OnOk, OnErr, vec_capacity};
+ghost use Rattle.cache_types.specs.Entries.{newest_first, is_end, is_not_yet};
+ghost use Rattle.cache_types.specs.Step.{IsCaller, MayCall, reply_after, stepped, history_after, is_full, WouldAppend};
+ghost use Rattle.cache_log.specs.Kept.{IsKept};
 
 use crate::answers::answer;
-use crate::look::{is_begin, is_end, is_not_yet, last_moment};
+use cache_log::{
+    append, entry_with, is_begin, is_end, is_full, is_not_yet, last_moment, make_room,
+};
 use cache_types::{CacheCall, Copied, Entry, Reply, StepFault, Stepped};
 use std::alloc::{AllocError, Global};
-
-/// No room is left for an entry of this call.
-fn is_full(entries: &[Entry], live: usize, most: u64, call: &CacheCall) -> bool
-    requires { live ≡ length (live_guests (newest_first entries.now)) }
-    ensures { result ≡ is_full (newest_first entries.now) most call.now }
-{
-    let taken = entries.len() as u128 + live as u128;
-    match call {
-        CacheCall::Begin => u128::from(most) < taken + 2,
-        CacheCall::End => false,
-        _ => u128::from(most) <= taken,
-    }
-}
-
-/// The entry of a call and a reply to it.
-fn entry_with(entries: &[Entry], guest: u64, reading: u64, call: CacheCall, reply: Reply) -> Entry
-    ensures { result ≡ entry_with (newest_first entries.now) guest reading call reply }
-{
-    let number = entries.len() as u64 + 1;
-    let guest = if is_begin(&call) { number } else { guest };
-    Entry {
-        number,
-        guest,
-        moment: last_moment(entries).max(reading),
-        call,
-        reply,
-    }
-}
 
 /// The reply to a guest's call at a reading.
 fn reply_after(
@@ -61,39 +34,6 @@ fn reply_after(
         last_moment(entries).max(reading),
         call,
     )
-}
-
-/// Makes room for the entry of this call, and for the End of each guest that is live after it.
-fn make_room(entries: &mut Vec<Entry>, live: usize, call: &CacheCall) -> Result<(), AllocError>
-    requires { length entries.old.items + live ≤ vec_capacity entries.old }
-    ensures same { entries.new.items ≡ entries.old.items }
-    ensures grown { vec_capacity entries.old ≤ vec_capacity entries.new }
-    ensures room { OnOk result (HasRoom entries.new.items live (vec_capacity entries.new) call.now) }
-{
-    match call {
-        CacheCall::Begin => entries.reserve(live.saturating_add(2)),
-        CacheCall::End => Ok(()),
-        _ => entries.reserve(live.saturating_add(1)),
-    }
-}
-
-/// Appends an entry that may follow, and counts the live guests after it.
-#[tactic(auto, using(crate::proofs::Walks::walks))]
-fn append(entries: &mut Vec<Entry>, live: &mut usize, entry: Entry)
-    requires kept { IsKept entries.old.items live.old (vec_capacity entries.old) }
-    requires next { IsNext (newest_first entries.old.items) entry }
-    requires room { HasRoom entries.old.items live.old (vec_capacity entries.old) entry.call }
-    ensures appended { entries.new.items ≡ entries.old.items ++ entry ∷ [] }
-    ensures kept { IsKept entries.new.items live.new (vec_capacity entries.new) }
-{
-    let begins = is_begin(&entry.call);
-    let ends = is_end(&entry.call);
-    entries.push_reserved(entry);
-    if begins {
-        *live += 1;
-    } else if ends {
-        *live -= 1;
-    }
 }
 
 /// The End of a live guest: its room was kept, so it has no refusal.

@@ -6,8 +6,8 @@ ghost use Rattle.cache_types.specs.Entries.{newest_first};
 ghost use Rattle.cache_types.specs.Transactions.{slot_for_new, goal_of, transaction_of, ends_by, is_end_of, ends, is_over, open_among, is_goal, is_own, is_held, is_own_open};
 
 use crate::found::{found, rules_of};
-use crate::look::{is_done, is_made, is_told_to_insert};
 use crate::slots::{Slot, is_same_slot, slot_for, slot_of};
+use cache_log::{is_done, is_made, is_told_to_insert};
 use cache_types::{CacheCall, Entry, Fields, Octets, Rule};
 use std::alloc::{AllocError, Global};
 

@@ -12,6 +12,3 @@ mod rules;
 pub use body::{Body, Part};
 pub use heads::{RequestHead, ResponseHead};
 pub use rules::{are_fields, is_field_name, is_field_value, is_status, is_uri};
-
-#[cfg(test)]
-mod tests;

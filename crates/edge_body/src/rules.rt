@@ -19,9 +19,7 @@ fn is_mark(byte: u8) -> bool
 fn is_name_byte(byte: u8) -> bool
     ensures { result ≡ is_name_byte byte }
 {
-    let letter = 97 <= byte && byte <= 122;
-    let digit = 48 <= byte && byte <= 57;
-    letter || (digit || is_mark(byte))
+    byte.is_ascii_lowercase() || (byte.is_ascii_digit() || is_mark(byte))
 }
 
 /// A header's name: a token in lower case.

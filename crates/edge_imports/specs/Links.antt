@@ -2,8 +2,7 @@
 use Rattle.std.specs.Prelude.{◌≡◌, ◌⊎◌, ℕ, ◌+◌, min, Bool, true, false, not, ◌&&◌, List, [], ◌∷◌, ◌++◌, codes, bytes_eq, slice_get, Option, None, Some, is_some, Result, Ok, Err, if◌then◌else◌}
 use Rattle.std.specs.List.{find, filter_map, list_any}
 use Rattle.std.specs.Option.{option_map}
-use Rattle.wasm_types.specs.declared.types.ValueType.{ValueType}
-use Rattle.wasm_types.specs.declared.types.ValueType.TheVariants.{I32, I64}
+use Rattle.wasm_types.specs.Types.{same_result, same_types}
 use Rattle.wasm_types.specs.declared.types.FuncType.{FuncType}
 use Rattle.wasm_types.specs.declared.modules.ImportKind.{ImportKind}
 use Rattle.wasm_types.specs.declared.modules.ImportKind.TheVariants as import
@@ -20,24 +19,9 @@ use Rattle.edge_imports.specs.Table.{Row, row_of, call_named}
 
 -- ---- types of functions
 
-abbrev pub is_same : ValueType → ValueType → Bool
-is_same I32 I32 = true
-is_same I64 I64 = true
-is_same _ _ = false
-
-abbrev pub are_same : List ValueType → List ValueType → Bool
-are_same [] [] = true
-are_same (x ∷ xs) (y ∷ ys) = is_same x y && are_same xs ys
-are_same _ _ = false
-
-abbrev pub is_same_result : Option ValueType → Option ValueType → Bool
-is_same_result None None = true
-is_same_result (Some x) (Some y) = is_same x y
-is_same_result _ _ = false
-
 -- the function type is that of the row
 abbrev pub is_of_row : Row → FuncType → Bool
-is_of_row row type = are_same type.params row.params && is_same_result type.result row.result
+is_of_row row type = same_types type.params row.params && same_result type.result row.result
 
 abbrev pub is_of : Row → Option FuncType → Bool
 is_of row None = false
@@ -46,7 +30,7 @@ is_of row (Some type) = is_of_row row type
 -- neither parameters nor a result
 abbrev pub is_plain : Option FuncType → Bool
 is_plain None = false
-is_plain (Some type) = are_same type.params [] && is_same_result type.result None
+is_plain (Some type) = same_types type.params [] && same_result type.result None
 
 -- the type at an index that an import or a function has
 abbrev pub type_at : List FuncType → Option ℕ → Option FuncType

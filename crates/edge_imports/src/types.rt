@@ -4,41 +4,10 @@ ghost use Rattle.std.specs.Prelude.{◌≡◌, ◌++◌, slice_get};
 ghost use Rattle.std.specs.Option.{option_copied};
 ghost use Rattle.std.specs.List.{filter_map};
 ghost use Rattle.edge_imports.specs.Table.{row_of};
-ghost use Rattle.edge_imports.specs.Links.{is_same, are_same, is_same_result, is_of_row, is_of, is_plain, type_at, imported_type, function_types};
+ghost use Rattle.edge_imports.specs.Links.{is_of_row, is_of, is_plain, type_at, imported_type, function_types};
 
 use crate::hostcall::Hostcall;
-use wasm_types::{FuncType, Import, ImportKind, Module, ValueType};
-
-fn is_same(one: ValueType, other: ValueType) -> bool
-    ensures { result ≡ is_same one other }
-{
-    matches!(
-        (one, other),
-        (ValueType::I32, ValueType::I32) | (ValueType::I64, ValueType::I64)
-    )
-}
-
-/// Whether two rows of value types are the same. It ends with the shorter one.
-fn are_same(ones: &[ValueType], others: &[ValueType]) -> bool
-    ensures { result ≡ are_same ones.now others.now }
-{
-    match (ones.split_first(), others.split_first()) {
-        (None, None) => true,
-        (Some((one, ones)), Some((other, others))) => is_same(*one, *other)
-            && are_same(ones, others),
-        _ => false,
-    }
-}
-
-fn is_same_result(one: Option<ValueType>, other: Option<ValueType>) -> bool
-    ensures { result ≡ is_same_result one other }
-{
-    match (one, other) {
-        (None, None) => true,
-        (Some(one), Some(other)) => is_same(one, other),
-        _ => false,
-    }
-}
+use wasm_types::{FuncType, Import, ImportKind, Module, same_result, same_types};
 
 /// Whether the function type is that of the call.
 pub fn is_of(call: Hostcall, function: Option<&FuncType>) -> bool
@@ -48,8 +17,8 @@ pub fn is_of(call: Hostcall, function: Option<&FuncType>) -> bool
         None => false,
         Some(function) => {
             let row = call.row();
-            are_same(function.params.items(), row.params)
-                && is_same_result(function.result, row.result)
+            same_types(function.params.items(), row.params)
+                && same_result(function.result, row.result)
         }
     }
 }
@@ -61,7 +30,7 @@ pub fn is_plain(function: Option<&FuncType>) -> bool
     match function {
         None => false,
         Some(function) => {
-            are_same(function.params.items(), &[]) && is_same_result(function.result, None)
+            same_types(function.params.items(), &[]) && same_result(function.result, None)
         }
     }
 }

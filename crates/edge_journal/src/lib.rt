@@ -7,7 +7,7 @@
 
 mod relying;
 
-pub use journal_reader::{Guests, Journal, read_journal};
+pub use journal_reader::{Guests, Journal, read_journal, spells_one_journal};
 pub use journal_writer::journal_text;
 pub use line_reader::RunFault;
 pub use relying::{read_and_written, written_and_read};

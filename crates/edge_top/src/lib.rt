@@ -16,8 +16,4 @@ mod script;
 pub use commands::host;
 pub use exit::Exit;
 pub use laws::{one_file_is_several, one_write_is_one_part, text_is_added};
-
-#[cfg(test)]
-mod module_tests;
-#[cfg(test)]
-mod tests;
+pub use script::journal_of;

@@ -18,7 +18,7 @@ use Rattle.journal_writer.specs.Journal.{journal_bytes, is_told, is_event, IsJou
 use Rattle.journal_reader.specs.Readable.{IsEntry, IsEvent, IsDone, IsReply, IsReadable}
 use Rattle.line_reader.specs.ByLines.{told_of, Tells, IsReadAs, IsFirstBad}
 use Rattle.journal_reader.specs.Machine.{machine, spell, lines_to, Stands}
-use Rattle.line_reader.proofs.ByLines.{IsExact, answer_found, answer_only, answer_line}
+use Rattle.line_reader.proofs.ByLines.{IsExact, answer_found, answer_only, answer_line, one_value}
 use Rattle.journal_reader.proofs.Taken.{takes, begins, ends}
 use Rattle.journal_reader.proofs.Again.{goes, feed}
 
@@ -78,6 +78,10 @@ only bytes answer journal tells fits e = answer_only machine IsReadable spell li
 
 pub line : (bytes : List ℕ) (answer : Result Journal RunFault) → Tells answer (told_of machine bytes) → IfErr answer (IsFirstBad IsReadable spell bytes)
 line bytes answer tells = answer_line machine IsReadable spell lines_to Stands exact bytes answer tells
+
+pub one_journal : (bytes : List ℕ) (one other : Journal) → IsReadable one → bytes ≡ journal_bytes one.history one.guests → IsReadable other → bytes ≡ journal_bytes other.history other.guests → one ≡ other
+unfolding journal_bytes
+one_journal bytes one other fits is fits' is' = one_value machine IsReadable spell lines_to Stands exact bytes one other fits is fits' is'
 
 -- ---- there and back
 

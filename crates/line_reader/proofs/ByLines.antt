@@ -221,6 +221,12 @@ bad_line m Fits spell lines_to Stands exact bytes n e =
 
 -- ---- the answer of a reader
 
+-- a text has one value at most
+pub one_value : {S V : Type 0} (m : Machine S V) (Fits : V → Type 0) (spell : V → List (List ℕ)) (lines_to : S → List (List ℕ)) (Stands : S → Type 0) → IsExact m Fits spell lines_to Stands
+    → (bytes : List ℕ) (one other : V) → Fits one → bytes ≡ text_of (spell one) → Fits other → bytes ≡ text_of (spell other) → one ≡ other
+one_value m Fits spell lines_to Stands exact bytes one other fits is fits' is' =
+    cc (sym (again_value m Fits spell lines_to Stands exact bytes one fits is) ∙ again_value m Fits spell lines_to Stands exact bytes other fits' is')
+
 pub answer_found : {S V : Type 0} (m : Machine S V) (Fits : V → Type 0) (spell : V → List (List ℕ)) (lines_to : S → List (List ℕ)) (Stands : S → Type 0) → IsExact m Fits spell lines_to Stands
     → (bytes : List ℕ) (answer : Result V RunFault) → Tells answer (told_of m bytes) → IfOk answer (λ value. Fits value × (bytes ≡ text_of (spell value)))
 answer_found m Fits spell lines_to Stands exact bytes (Ok value) tells = found_value m Fits spell lines_to Stands exact bytes value tells

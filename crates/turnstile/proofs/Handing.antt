@@ -12,9 +12,9 @@ use Rattle.std.proofs.lemmas.List.Sums.{sum_by_push}
 use Rattle.atomic_table.specs.Table.{State, Me, Act, step, keeps, stepped, Allows, Splits, Joins}
 use Rattle.atomic_table.proofs.Lists.{at_set, at_map}
 use Rattle.turnstile.specs.declared.view.View.{View}
-use Rattle.turnstile.specs.Log.{entries_of, handed, merged, Families}
+use Rattle.turnstile.specs.Log.{IsShare, entries_of, handed, merged, Families}
 use Rattle.turnstile.specs.Rule.{turn_of, inside_of, Sees, Knows, Stands}
-use Rattle.turnstile.specs.Plays.{IsShare, Learned, Settled, longer, shorter, kept_part, new_part, joined, spent_view}
+use Rattle.turnstile.specs.Plays.{Learned, Settled, longer, shorter, kept_part, new_part, joined, spent_view}
 use Rattle.turnstile.proofs.Logs.{owned_none, owned_handed-own, owned_handed-spent, owned_handed-other, handed_own, handed_other, entries_of-handed, at_unmap}
 use Rattle.turnstile.proofs.Lists.{at_bound, at_snoc_place, same_some, seats_set, sum_set, prefix_of_two}
 use Rattle.turnstile.proofs.Seats.{inside_other, sees_all, sees_prefix, share}

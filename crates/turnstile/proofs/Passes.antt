@@ -6,8 +6,8 @@ use Rattle.atomic_table.specs.Table.{Me}
 use Rattle.atomic_table.specs.Seated.{TableId}
 use Rattle.turnstile.specs.declared.view.View.{View}
 use Rattle.turnstile.specs.Standing.{Fits, MayJoin, of_family, family_entries}
-use Rattle.turnstile.specs.Log.{entries_of}
-use Rattle.turnstile.specs.Plays.{IsShare, Won, IsReady, HasServed, turn_ended}
+use Rattle.turnstile.specs.Log.{IsShare, entries_of}
+use Rattle.turnstile.specs.Plays.{Won, IsReady, HasServed, turn_ended}
 use Rattle.turnstile.specs.Pass.{TurnstileView, PassView, pass_view, after_turn, Served}
 use Rattle.turnstile.proofs.Logs.{owned_contains, own_filter, older_filter, family_maker}
 use Rattle.turnstile.proofs.Lists.{same_some}

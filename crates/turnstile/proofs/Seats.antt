@@ -10,9 +10,8 @@ use Rattle.std.proofs.lemmas.List.{take-append-le, length-append}
 use Rattle.std.proofs.Math.Seq.{take-length}
 use Rattle.atomic_table.proofs.Lists.{at_snoc}
 use Rattle.turnstile.specs.declared.view.View.{View}
-use Rattle.turnstile.specs.Log.{entries_of, owned, Families}
+use Rattle.turnstile.specs.Log.{IsShare, entries_of, owned, Families}
 use Rattle.turnstile.specs.Rule.{inside_of, Sees, Knows}
-use Rattle.turnstile.specs.Plays.{IsShare}
 use Rattle.turnstile.proofs.Logs.{owned_push-other, owned_take}
 use Rattle.turnstile.proofs.Lists.{prefix_longer, entries_take, entries_push, at_bound}
 

@@ -10,10 +10,10 @@ use Rattle.std.proofs.lemmas.List.{length-append, length-map, length-set}
 use Rattle.atomic_table.specs.Table.{State, Me, Act, step, keeps, takes, gives, stepped, Allows}
 use Rattle.atomic_table.proofs.Lists.{at_snoc, at_longer, at_last}
 use Rattle.turnstile.specs.declared.view.View.{View}
-use Rattle.turnstile.specs.Log.{entries_of, owned, Families}
+use Rattle.turnstile.specs.Log.{IsShare, entries_of, owned, Families}
 use Rattle.turnstile.specs.Standing.{family_number, MayJoin}
 use Rattle.turnstile.specs.Rule.{turn_of, inside_of, Sees, Knows, Stands}
-use Rattle.turnstile.specs.Plays.{IsShare, Won, Claimed, Published, Left, LeftIdle}
+use Rattle.turnstile.specs.Plays.{Won, Claimed, Published, Left, LeftIdle}
 use Rattle.turnstile.proofs.Logs.{owned_push-own, owned_contains}
 use Rattle.turnstile.proofs.Lists.{at_bound, at_snoc_place, one_only, same_some, seats_set, sum_set, snoc_list, prefix_longer, entries_push}
 use Rattle.turnstile.proofs.Seats.{inside_own, inside_other, inside_is, sees_all, sees_prefix, share, knows_turned, knows_grown}

@@ -1,5 +1,5 @@
 -- Who added what: the entries that were added to a list, in their order, each with the seat that added it.
-use Rattle.std.specs.Prelude.{◌≡◌, ℕ, suc, ◌+◌, ◌≤◌, ◌==◌, nat_le, cond, List, [], ◌∷◌, map}
+use Rattle.std.specs.Prelude.{◌≡◌, ℕ, suc, ◌+◌, ◌<◌, ◌≤◌, ◌==◌, nat_le, cond, List, [], ◌∷◌, ◌++◌, map, All}
 use mathlib.Core.Option.{some}
 use lib.ListN.{get_elem?}
 
@@ -36,3 +36,12 @@ module _ {E : Type 0} where
   abbrev pub Families : (E → ℕ) → ℕ → List (ℕ × E) → Type 0
   Families family n log = (i : ℕ) (x : ℕ × E) → get_elem? log i ≡ some x
       → (m : ℕ) × (n + m ≡ family x.1) × (m ≤ i) × ((y : E) × (get_elem? log m ≡ some (x.0, y)) × (family y ≡ family x.1))
+
+-- There is a log of who added what, in which `seen` is the whole list and `mine` what one seat added.
+pub record IsShare {E : Type 0} (base : List E) (number : ℕ) (family : E → ℕ) (seen : List E) (mine : List (ℕ × E)) : Type 0 where
+  pub log : List (ℕ × E)
+  pub seat : ℕ
+  pub list : seen ≡ base ++ entries_of log
+  pub made : mine ≡ owned seat number log
+  pub older : All (λ e. family e < number) base
+  pub families : Families family number log

@@ -4,9 +4,9 @@ use mathlib.Core.List.{IsPrefix}
 use Rattle.atomic_table.specs.Seated.{TableId}
 use Rattle.turnstile.specs.declared.view.View.{View}
 use Rattle.turnstile.specs.Standing.{Fits, OfFamily}
-use Rattle.turnstile.specs.Log.{merged}
+use Rattle.turnstile.specs.Log.{IsShare, merged}
 use Rattle.turnstile.specs.Rule.{all_parts}
-use Rattle.turnstile.specs.Plays.{IsShare, longer}
+use Rattle.turnstile.specs.Plays.{longer}
 
 -- which turnstile it is, and the value that it was made with
 pub record TurnstileView (T : Type 0) : Type 0 where

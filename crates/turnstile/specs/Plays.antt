@@ -4,16 +4,7 @@ use mathlib.Core.List.{IsPrefix}
 use Rattle.atomic_table.specs.Table.{Me, Step}
 use Rattle.turnstile.specs.declared.view.View.{View}
 use Rattle.turnstile.specs.Standing.{Fits, MayJoin, OfFamily, Adds}
-use Rattle.turnstile.specs.Log.{entries_of, owned, merged, Families}
-
--- There is a log of who added what, in which `seen` is the whole list and `mine` what one seat added.
-pub record IsShare {E : Type 0} (base : List E) (number : ℕ) (family : E → ℕ) (seen : List E) (mine : List (ℕ × E)) : Type 0 where
-  pub log : List (ℕ × E)
-  pub seat : ℕ
-  pub list : seen ≡ base ++ entries_of log
-  pub made : mine ≡ owned seat number log
-  pub older : All (λ e. family e < number) base
-  pub families : Families family number log
+use Rattle.turnstile.specs.Log.{IsShare, entries_of, owned, merged, Families}
 
 -- the list of a value, the number of its first entry, what a later value with a list has in common with it, and the family of an entry
 module _ {T E : Type 0} (entries : T → List E) (first : T → ℕ) (fits : T → List E → T → Type 0) (family : E → ℕ) where

@@ -1,4 +1,3 @@
 pub mod Rising
 pub mod Naming
 pub mod Lowered
-pub mod Held

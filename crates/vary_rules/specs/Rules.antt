@@ -1,11 +1,12 @@
 -- The rule that a text names: the names of headers, separated by spaces or commas, in any case.
-use Rattle.std.specs.Prelude.{◌≡◌, ◌<◌, ◌≤◌, ℕ, ◌+◌, Bool, true, false, ◌&&◌, ◌||◌, List, [], ◌∷◌, ◌++◌, length, map, filter, nat_le, ◌==◌, Result, Ok, Err, Vec, bytes_eq, if◌then◌else◌}
+use Rattle.std.specs.Prelude.{◌≡◌, ℕ, Bool, true, false, ◌||◌, List, [], ◌∷◌, ◌++◌, length, map, filter, nat_le, ◌==◌, Result, Ok, Err, Vec, bytes_eq, if◌then◌else◌}
+use Rattle.std.specs.BTreeSet.{insert_key}
 use Rattle.std.specs.Global.{Global}
 use Rattle.std.specs.List.{slice_split, list_all, list_any}
-use Rattle.std.specs.Ordering.{nat_cmp, is_lt}
+use Rattle.std.specs.Ordering.{nat_cmp}
 use Rattle.std.specs.Cmp.Lexicographic.{slice_cmp}
+use Rattle.std.specs.Str.{str_to_ascii_lowercase}
 use Rattle.cache_types.specs.Limits.{is_name}
-use Rattle.cache_types.specs.Rule.{rises}
 use Rattle.vary_rules.specs.declared.fault.RuleFault.{RuleFault}
 use Rattle.vary_rules.specs.declared.fault.RuleFault.TheVariants as fault
 
@@ -17,31 +18,17 @@ abbrev pub is_some_word : List ℕ → Bool
 is_some_word [] = false
 is_some_word (byte ∷ word) = true
 
--- in lower case
-abbrev pub lower : ℕ → ℕ
-lower byte = if nat_le 65 byte && nat_le byte 90 then byte + 32 else byte
-
-abbrev pub lowered : List ℕ → List ℕ
-lowered word = map lower word
-
--- the names among some parts of a text, and those in a text
+-- the names among some parts of a text, and those in a text, in lower case
 abbrev pub names_in : List (List ℕ) → List (List ℕ)
-names_in parts = map lowered (filter is_some_word parts)
+names_in parts = map str_to_ascii_lowercase (filter is_some_word parts)
 
 abbrev pub names_of : List ℕ → List (List ℕ)
 names_of text = names_in (slice_split is_gap text)
 
-abbrev pub is_below : List ℕ → List ℕ → Bool
-is_below name other = is_lt (slice_cmp nat_cmp name other)
-
--- a name between those below and those above it
-abbrev pub placed : List (List ℕ) → List ℕ → List (List ℕ)
-placed rule name = filter (λ other. is_below other name) rule ++ (name ∷ filter (λ other. is_below name other) rule)
-
--- some names more
+-- some names, each in its place by its bytes unless it is there already
 abbrev pub rule_with : List (List ℕ) → List (List ℕ) → List (List ℕ)
 rule_with rule [] = rule
-rule_with rule (name ∷ names) = rule_with (placed rule name) names
+rule_with rule (name ∷ names) = rule_with (insert_key (slice_cmp nat_cmp) rule name) names
 
 -- the names in their order, each once
 abbrev pub rule_of : List ℕ → List (List ℕ)
@@ -73,10 +60,3 @@ TellsNames (Ok names) done parts = (names.items ≡ done ++ names_in parts) × (
 TellsNames (Err fault.BadName) done parts = are_names (names_in parts) ≡ false
 TellsNames (Err fault.TooMany) done parts = ⊥
 TellsNames (Err fault.OutOfMemory) done parts = Unit {0}
-
--- The names in their order, of which there are 32 at most.
-abbrev pub TellsRule : Result (Vec (List ℕ) Global) RuleFault → List (List ℕ) → Type 0
-TellsRule (Ok rule) names = (rule.items ≡ rule_with [] names) × (length rule.items ≤ 32) × (rises rule.items ≡ true)
-TellsRule (Err fault.BadName) names = ⊥
-TellsRule (Err fault.TooMany) names = 32 < length (rule_with [] names)
-TellsRule (Err fault.OutOfMemory) names = Unit {0}

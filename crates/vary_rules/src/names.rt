@@ -2,6 +2,7 @@
 
 ghost use Rattle.std.specs.Prelude.{◌≡◌, ◌<◌, ◌∷◌, [], length, IfOk, IfSome, MatchOption, position};
 ghost use Rattle.std.specs.List.{slice_split};
+ghost use Rattle.std.specs.Str.{str_to_ascii_lowercase};
 ghost use Rattle.vary_rules.specs.Rules as spec;
 
 use crate::fault::RuleFault;
@@ -32,20 +33,13 @@ fn cut(text: &[u8]) -> Option<(&[u8], &[u8])>
     }
 }
 
-fn lower(byte: u8) -> u8
-    ensures { result ≡ spec.lower byte }
-{
-    if 65 <= byte && byte <= 90 {
-        byte + 32
-    } else {
-        byte
-    }
-}
-
 fn lowered(alloc: Global, word: &[u8]) -> Result<Octets, AllocError>
-    ensures { IfOk result (λ name. name ≡ spec.lowered word.now) }
+    ensures { IfOk result (λ name. name ≡ str_to_ascii_lowercase word.now) }
 {
-    let bytes: Vec<u8> = word.iter().map(|byte| lower(*byte)).collect(alloc)?;
+    let bytes: Vec<u8> = word
+        .iter()
+        .map(|byte| byte.to_ascii_lowercase())
+        .collect(alloc)?;
     Octets::from_vec(bytes)
 }
 

@@ -1,70 +1,23 @@
 //! The rule that a text names.
 
-ghost use Rattle.std.specs.Prelude.{◌≡◌, ◌++◌, filter, IfOk, List, ℕ};
+ghost use Rattle.std.specs.Prelude.{◌≡◌, [], IfOk, List, ℕ};
 ghost use Rattle.vary_rules.specs.Rules as spec;
 
 use crate::fault::RuleFault;
 use crate::names::names_of;
-use cache_types::{Copied, Octets, Rule};
-use std::alloc::{AllocError, Global};
+use cache_types::{Octets, Rule};
+use std::alloc::{AllocFailed, Global};
+use std::collections::BTreeSet;
 
 const MOST_NAMES: usize = 32;
 
-fn is_below(name: &Octets, other: &Octets) -> bool
-    ensures { result ≡ spec.is_below name.now other.now }
+/// The names in their order, each once.
+fn ordered(alloc: Global, names: Vec<Octets>) -> Result<BTreeSet<Octets>, AllocFailed<Octets>>
+    ensures { IfOk result (λ rule. rule.keys ≡ spec.rule_with [] names.items) }
 {
-    name.bytes().cmp(other.bytes()).is_lt()
-}
-
-fn below(alloc: Global, rule: &[Octets], name: &Octets) -> Result<Vec<Octets>, AllocError>
-    ensures { IfOk result (λ found. found.items ≡ filter (λ other. spec.is_below other name.now) rule.now) }
-{
-    let mut found = Vec::new(alloc);
-    for other in rule {
-        if is_below(other, name) {
-            found.push(other.copy(alloc)?)?;
-        }
-    }
-    Ok(found)
-}
-
-/// These names, and those of the rule above the name.
-fn with_above(
-    alloc: Global,
-    names: Vec<Octets>,
-    rule: &[Octets],
-    name: &Octets,
-) -> Result<Vec<Octets>, AllocError>
-    ensures { IfOk result (λ found. found.items ≡ names.items ++ filter (λ other. spec.is_below name.now other) rule.now) }
-{
-    let mut found = names;
-    for other in rule {
-        if is_below(name, other) {
-            found.push(other.copy(alloc)?)?;
-        }
-    }
-    Ok(found)
-}
-
-fn place(alloc: Global, rule: &[Octets], name: &Octets) -> Result<Vec<Octets>, AllocError>
-    ensures { IfOk result (λ placed. placed.items ≡ spec.placed rule.now name.now) }
-{
-    let mut placed = below(alloc, rule, name)?;
-    placed.push(name.copy(alloc)?)?;
-    with_above(alloc, placed, rule, name)
-}
-
-fn ordered(alloc: Global, names: &[Octets]) -> Result<Vec<Octets>, RuleFault>
-    ensures { spec.TellsRule result names.now }
-{
-    let mut rule = Vec::new(alloc);
-    let mut left = names;
-    while let Some((name, after)) = left.split_first() {
-        rule = place(alloc, &rule, name)?;
-        if rule.len() > MOST_NAMES {
-            return Err(RuleFault::TooMany);
-        }
-        left = after;
+    let mut rule = BTreeSet::new(alloc);
+    for name in names {
+        rule.insert(name)?;
     }
     Ok(rule)
 }
@@ -79,6 +32,10 @@ pub fn read_rule(alloc: Global, text: &[u8]) -> Result<Rule, RuleFault>
     ensures names { IfOk result (λ rule. (name : List ℕ) → spec.holds name rule ≡ spec.holds name (spec.names_of text.now)) }
 {
     let names = names_of(alloc, text)?;
-    let rule = ordered(alloc, &names)?;
-    Ok(Rule::of(rule))
+    let rule = ordered(alloc, names)?;
+    if rule.len() > MOST_NAMES {
+        return Err(RuleFault::TooMany);
+    }
+    let names: Vec<Octets> = rule.into_iter().collect(alloc)?;
+    Ok(Rule::of(names))
 }

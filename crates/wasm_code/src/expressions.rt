@@ -12,6 +12,7 @@ use crate::scope::{Scope, fault_at, short_of};
 use std::alloc::{AllocError, Global};
 use std::collections::VecDeque;
 use wasm_types::Instr;
+use wasm_types::limits::MOST_NESTED;
 
 // The blocks that are open, the innermost first: whether an else may part it.
 type Opens = VecDeque<bool>;
@@ -36,7 +37,7 @@ fn refusal(opens: &Opens, code: u8) -> Option<ReadKind>
         return Some(ReadKind::BadForm);
     }
     if 0x02 <= code && code <= 0x04 {
-        if opens.len() < 1024 {
+        if opens.len() < MOST_NESTED {
             return None;
         }
         return Some(ReadKind::NestedTooDeep);

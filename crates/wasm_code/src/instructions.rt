@@ -11,6 +11,7 @@ use crate::opcodes::{load, numeric, store};
 use crate::scope::{Scope, fault_at, short_of};
 use crate::vectors::{Index, read_vector};
 use std::alloc::Global;
+use wasm_types::limits::MOST_LABELS;
 use wasm_types::{Instr, Value, ValueType};
 
 // A type of floating point, or no value type.
@@ -118,7 +119,7 @@ fn branch(
             Ok((Instr::BrIf(number), rest))
         }
         0x0E => {
-            let (labels, rest) = read_vector(&Index, 65536, alloc, scope, rest)?;
+            let (labels, rest) = read_vector(&Index, MOST_LABELS, alloc, scope, rest)?;
             let (other, rest) = read_u32(scope, rest)?;
             Ok((Instr::BrTable { labels, other }, rest))
         }

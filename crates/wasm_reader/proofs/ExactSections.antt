@@ -18,7 +18,9 @@ use Rattle.wasm_code.proofs.Steps.{bind_ok, needs_ok, pair_is, ap2_pair, same_ok
 use Rattle.wasm_code.proofs.ExactNumbers.{u32_exact, count_exact}
 use Rattle.wasm_code.proofs.ExactInstructions.{value_type_exact}
 use Rattle.wasm_code.proofs.ExactExpressions.{expression_exact, u32_takes}
-use Rattle.wasm_reader.specs.Grammar.{AreBytes, IsName, IsSized, Group, IsGroup, locals_of, params_of, IsBody, AreBodies, AreCode, IsCustom, AreCustoms, IsOptional, Section}
+use Rattle.wasm_reader.specs.Grammar.{AreBytes, IsName, IsSized, IsGroup, params_of, IsBody, AreBodies, AreCode, IsCustom, AreCustoms, IsOptional, Section}
+use Rattle.wasm_types.specs.declared.locals.Group.{Group}
+use Rattle.wasm_types.specs.Locals.{locals_of}
 use Rattle.wasm_reader.specs.Reading.{name_at}
 use Rattle.wasm_reader.specs.Sections.{Inside, short_before, open_at, close_at, sized_at, is_bad_leb, crowded, crowded_at, groups_at, locals_from, locals_at, body_at, bodies_at, code_section_at, custom_at, next_custom_at, customs_from, customs_at, optional_at, section_at}
 use Rattle.wasm_reader.proofs.ExactParts.{cut_is, cut_again, name_exact}

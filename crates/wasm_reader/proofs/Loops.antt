@@ -1,5 +1,5 @@
 -- What the loops of the reader keep.
-use Rattle.std.proofs.Common.{◌≡◌, ℕ, suc, ◌+◌, ◌-◌, List, [], ◌∷◌, ◌++◌, length, Some, None, Result, Ok, Err, refl, sym, ◌∙◌, replicate}
+use Rattle.std.proofs.Common.{◌≡◌, ℕ, suc, ◌+◌, ◌-◌, ◌≤◌, List, [], ◌∷◌, ◌++◌, length, Some, None, Result, Ok, Err, refl, sym, ◌∙◌, replicate}
 use Rattle.wasm_types.specs.declared.types.ValueType.{ValueType}
 use Rattle.wasm_types.specs.declared.types.FuncType.{FuncType}
 use Rattle.wasm_types.specs.declared.modules.Code.{Code}
@@ -9,6 +9,7 @@ use Rattle.basics.specs.declared.stop.Stop.TheVariants as stops
 use Rattle.wasm_code.specs.declared.scope.Scope.{Scope}
 use Rattle.wasm_code.specs.Reading.{Reading, Fails, count_at}
 use Rattle.wasm_code.specs.Instructions.{value_type_at}
+use Rattle.wasm_code.proofs.ExactNumbers.{count_exact}
 use Rattle.wasm_code.proofs.Loop.{with_front, regroup}
 use Rattle.wasm_reader.specs.Grammar.{params_of}
 use Rattle.wasm_reader.specs.Sections.{next_custom_at, customs_from, locals_from, sized_at, body_at, bodies_at}
@@ -35,6 +36,9 @@ unfolding customs_from
 customs_done scope bytes = refl
 
 -- ---- locals
+
+pub count_below : (limit : ℕ) (scope : Scope) (bytes rest : List ℕ) (n : ℕ) → count_at limit scope bytes ≡ Ok (n, rest) → n ≤ limit
+count_below limit scope bytes rest n e = ((count_exact limit scope).sound bytes rest n e).0
 
 pub locals_go : (params most count : ℕ) (before : List ValueType) (scope : Scope) (bytes mid after : List ℕ) (kind : ValueType) → count_at (4096 - (params + length before)) scope bytes ≡ Ok (count, mid) → value_type_at scope mid ≡ Ok (kind, after)
     → locals_from params before (suc most) scope bytes ≡ locals_from params (before ++ replicate count kind) most scope after

@@ -4,6 +4,8 @@ use Rattle.std.specs.Prelude.{◌≡◌, ◌⊎◌, ℕ, zero, suc, ◌+◌, ◌
 use Rattle.std.specs.Option.{option_to_list, option_map_or}
 use Rattle.wasm_types.specs.declared.types.ValueType.{ValueType}
 use Rattle.wasm_types.specs.declared.types.FuncType.{FuncType}
+use Rattle.wasm_types.specs.declared.locals.Group.{Group}
+use Rattle.wasm_types.specs.Locals.{locals_of}
 use Rattle.wasm_types.specs.declared.types.Limits.{Limits}
 use Rattle.wasm_types.specs.declared.types.GlobalType.{GlobalType}
 use Rattle.wasm_types.specs.declared.modules.ImportKind.{ImportKind}
@@ -96,16 +98,8 @@ abbrev pub IsSized : {A : Type 0} → (List ℕ → A → List ℕ → Type 0) �
 IsSized Is bytes x rest = (inside : List ℕ) × AreBytes bytes inside rest × Is inside x []
 
 -- locals (section 5.5.13): groups of a count and a type
-pub record Group : Type 0 where
-  pub count : ℕ
-  pub kind : ValueType
-
 abbrev pub IsGroup : List ℕ → Group → List ℕ → Type 0
 IsGroup bytes g rest = (mid : List ℕ) × IsU32 bytes g.count mid × IsValueType mid g.kind rest
-
-abbrev pub locals_of : List Group → List ValueType
-locals_of [] = []
-locals_of (g ∷ groups) = replicate g.count g.kind ++ locals_of groups
 
 abbrev pub AreLocals : List ℕ → List ValueType → List ℕ → Type 0
 AreLocals bytes locals rest = (groups : List Group) × (mid : List ℕ) × IsU32 bytes (length groups) mid × AreMany IsGroup mid groups rest × (locals ≡ locals_of groups)

@@ -1,17 +1,18 @@
 //! Code (section 5.5.13).
 
-ghost use Rattle.std.specs.Prelude.{◌≡◌, ◌++◌, OnOk, List, [], replicate, length};
+ghost use Rattle.std.specs.Prelude.{◌≡◌, []};
 ghost use Rattle.wasm_code.specs.Reading.{Gives, Fails};
 ghost use Rattle.wasm_reader.specs.Grammar.{params_of};
 ghost use Rattle.wasm_reader.specs.Sections.{is_bad_leb, crowded_at, groups_at, locals_from, locals_at, body_at, bodies_at, code_section_at};
 
 use crate::sections::read_sized;
-use std::alloc::{AllocError, Global};
+use std::alloc::Global;
 use wasm_code::{
     Field, ReadKind, Scope, Stop, fault_at, read_count, read_expression, read_u32, read_value_type,
     short_of,
 };
-use wasm_types::{Code, FuncType, Items, ValueType};
+use wasm_types::limits::{MOST_FUNCTIONS, MOST_LOCALS};
+use wasm_types::{Code, FuncType, Items, Locals};
 
 fn is_bad_leb(kind: ReadKind) -> bool
     ensures { result ≡ is_bad_leb kind }
@@ -48,22 +49,12 @@ fn read_groups(params: usize, scope: Scope, bytes: &[u8]) -> Result<(u32, &[u8])
     match bytes {
         [] => Err(Stop::Fault(short_of(scope))),
         [_, ..] => {
-            if 4096 < params {
+            if MOST_LOCALS < params {
                 return Err(crowded(scope, bytes));
             }
             read_u32(scope, bytes)
         }
     }
-}
-
-// So many more locals of a type.
-fn add_locals(locals: &mut Vec<ValueType>, count: u32, kind: ValueType) -> Result<(), AllocError>
-    ensures { OnOk result (locals.new.items ≡ locals.old.items ++ replicate count kind) }
-{
-    for _ in 0..count {
-        locals.push(kind)?;
-    }
-    Ok(())
 }
 
 // So many groups of locals: each a count, for which there is room with the locals so far, and a type.
@@ -73,16 +64,18 @@ fn read_all_groups(
     count: u32,
     scope: Scope,
     bytes: &[u8],
-) -> Result<(Vec<ValueType>, &[u8]), Stop>
-    ensures { Gives (λ x. (x.0.items, x.1.now)) result (locals_from params [] count scope bytes.now) }
+) -> Result<(Locals, &[u8]), Stop>
+    ensures { Gives (λ x. (x.0, x.1.now)) result (locals_from params [] count scope bytes.now) }
 {
-    let mut locals = Vec::new(alloc);
+    let mut locals = Locals::new(alloc);
+    let mut len = 0usize;
     let mut rest = bytes;
     for _ in 0..count {
-        let room = 4096usize.saturating_sub(params.saturating_add(locals.len()));
+        let room = MOST_LOCALS.saturating_sub(params.saturating_add(len));
         let (more, after) = read_count(room as u32, scope, rest)?;
         let (kind, after) = read_value_type(scope, after)?;
-        add_locals(&mut locals, more, kind)?;
+        locals = locals.with(more as usize, kind)?;
+        len += more as usize;
         rest = after;
     }
     Ok((locals, rest))
@@ -94,8 +87,8 @@ fn read_locals(
     params: usize,
     scope: Scope,
     bytes: &[u8],
-) -> Result<(Vec<ValueType>, &[u8]), Stop>
-    ensures { Gives (λ x. (x.0.items, x.1.now)) result (locals_at params scope bytes.now) }
+) -> Result<(Locals, &[u8]), Stop>
+    ensures { Gives (λ x. (x.0, x.1.now)) result (locals_at params scope bytes.now) }
 {
     let (count, rest) = read_groups(params, scope, bytes)?;
     read_all_groups(alloc, params, count, scope, rest)
@@ -114,7 +107,7 @@ fn read_body(
     let (code, rest) = read_expression(alloc, scope, rest)?;
     Ok((
         Code {
-            locals: Items::of(locals),
+            locals,
             body: Items::of(code),
         },
         rest,
@@ -194,7 +187,7 @@ fn read_code_section<'a>(
 ) -> Result<(Items<Code>, &'a [u8]), Stop>
     ensures { Gives (λ x. (x.0, x.1.now)) result (code_section_at types.now functions.now scope bytes.now) }
 {
-    let (count, rest) = read_count(65536, scope, bytes)?;
+    let (count, rest) = read_count(MOST_FUNCTIONS, scope, bytes)?;
     read_bodies(alloc, types, functions, count, scope, rest)
 }
 

@@ -5,8 +5,8 @@
 //! That the fault is the first one is a law above the reading: the clause `first`, and of the parts by themselves
 //! [`parts_tell_first`] and [`sections_tell_first`].
 //!
-//! Reading goes once from left to right. A vector takes memory only as its items are read, whatever its count is. Locals
-//! are kept one by one, 4,096 a function at most, however few bytes ask for them.
+//! Reading goes once from left to right, and takes memory for what was read, not for counts: of locals, which a few bytes
+//! may ask for by thousands, it keeps the groups.
 #![tactic(auto)]
 
 mod bodies;

@@ -15,6 +15,7 @@ use std::alloc::Global;
 use wasm_code::{
     Field, Index, ReadFault, ReadKind, Scope, Stop, Vector, fault_at, short_of, told_of,
 };
+use wasm_types::limits::{MOST_BYTES, MOST_FUNCTIONS, MOST_GLOBALS, MOST_TYPES};
 use wasm_types::{Items, Module};
 
 // What follows the four bytes of the magic.
@@ -93,12 +94,12 @@ fn read_list<'a, F: Field + Drop>(
 fn read_sections(alloc: Global, scope: Scope, bytes: &[u8]) -> Result<Module, Stop>
     ensures { Gives (λ m. m) result (sections_at scope bytes.now) }
 {
-    let (types, rest) = read_list(1, 65536, FuncTypes, alloc, scope, bytes)?;
+    let (types, rest) = read_list(1, MOST_TYPES, FuncTypes, alloc, scope, bytes)?;
     let (imports, rest) = read_list(2, u32::MAX, Imports, alloc, scope, rest)?;
-    let (functions, rest) = read_list(3, 65536, Index, alloc, scope, rest)?;
+    let (functions, rest) = read_list(3, MOST_FUNCTIONS, Index, alloc, scope, rest)?;
     let (tables, rest) = read_list(4, u32::MAX, Tables, alloc, scope, rest)?;
     let (memories, rest) = read_list(5, u32::MAX, Memories, alloc, scope, rest)?;
-    let (globals, rest) = read_list(6, 4096, Globals, alloc, scope, rest)?;
+    let (globals, rest) = read_list(6, MOST_GLOBALS, Globals, alloc, scope, rest)?;
     let (exports, rest) = read_list(7, u32::MAX, Exports, alloc, scope, rest)?;
     let (start, rest) = read_section(8, None, &Start, alloc, scope, rest)?;
     let (elements, rest) = read_list(9, u32::MAX, Elements, alloc, scope, rest)?;
@@ -129,7 +130,7 @@ fn read_sections(alloc: Global, scope: Scope, bytes: &[u8]) -> Result<Module, St
 fn read_all(alloc: Global, bytes: &[u8]) -> Result<Module, ReadFault>
     ensures { Answers (λ m. m) result (module_at bytes.now) }
 {
-    if 16_777_216 < bytes.len() {
+    if MOST_BYTES < bytes.len() {
         return Err(ReadFault {
             kind: ReadKind::TooLarge,
             place: 0,

@@ -150,7 +150,7 @@ fn read_element(alloc: Global, scope: Scope, bytes: &[u8]) -> Result<(Element, &
 {
     let (table, rest) = read_u32(scope, bytes)?;
     let (offset, rest) = read_expression(alloc, scope, rest)?;
-    let (functions, rest) = read_vector(&Index, 4294967295, alloc, scope, rest)?;
+    let (functions, rest) = read_vector(&Index, u32::MAX, alloc, scope, rest)?;
     Ok((
         Element {
             table,

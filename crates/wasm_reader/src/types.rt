@@ -9,6 +9,7 @@ use std::alloc::Global;
 use wasm_code::{
     Field, ReadKind, Scope, Stop, fault_at, read_count, read_value_type, read_vector, short_of,
 };
+use wasm_types::limits::{MOST_ENTRIES, MOST_PAGES, PAGES};
 use wasm_types::{FuncType, GlobalType, Limits, ValueType};
 
 // What follows a byte that must be this one.
@@ -63,7 +64,7 @@ fn read_func_type(alloc: Global, scope: Scope, bytes: &[u8]) -> Result<(FuncType
     ensures { Gives (λ x. (x.0, x.1.now)) result (func_type_at scope bytes.now) }
 {
     let rest = read_byte(0x60, scope, bytes)?;
-    let (params, rest) = read_vector(&ValueTypes, 4294967295, alloc, scope, rest)?;
+    let (params, rest) = read_vector(&ValueTypes, u32::MAX, alloc, scope, rest)?;
     let (result, rest) = read_results(scope, rest)?;
     Ok((FuncType { params, result }, rest))
 }
@@ -130,7 +131,7 @@ fn read_limits(least: u32, most: u32, scope: Scope, bytes: &[u8]) -> Result<(Lim
 pub(crate) fn read_memory(scope: Scope, bytes: &[u8]) -> Result<(Limits, &[u8]), Stop>
     ensures { Gives (λ x. (x.0, x.1.now)) result (memory_at scope bytes.now) }
 {
-    read_limits(2048, 65536, scope, bytes)
+    read_limits(MOST_PAGES, PAGES, scope, bytes)
 }
 
 #[tactic(auto, unfolding(crate::specs::Reading::table_at))]
@@ -138,7 +139,7 @@ pub(crate) fn read_table(scope: Scope, bytes: &[u8]) -> Result<(Limits, &[u8]), 
     ensures { Gives (λ x. (x.0, x.1.now)) result (table_at scope bytes.now) }
 {
     let rest = read_byte(0x70, scope, bytes)?;
-    read_limits(65536, 4294967295, scope, rest)
+    read_limits(MOST_ENTRIES, u32::MAX, scope, rest)
 }
 
 /// A memory type as an item.

@@ -1,59 +1,41 @@
 //! Expressions whose instructions or faults come from outside the reader.
 
+use crate::told::bytes_of;
 use std::test::Fail;
-use wasm_code::*;
-use wasm_types::Instr;
+use wasm_code::read_code;
 
-// Whether an expression is read from these bytes, behind one other byte, and if not, what the fault is.
-fn fault_of(rt: &HostRuntime, bytes: &[u8]) -> Option<(ReadKind, u32)> {
+/// Expressions behind one other byte, as hexadecimal digits, and what is told of each.
+const ROWS: &str = "\
+ff 41 ff7f 1a 0b 0b;after 6 [Const(I32(4294967295)), Drop, End]
+00 0b;after 2 [End]
+00 20 8080808000 0b;after 8 [LocalGet(0), End]
+00 20 808080808000 0b;BadLeb at 2
+00 20 8080808010 0b;BadLeb at 2
+00 41 8080808078 0b;after 8 [Const(I32(2147483648)), End]
+00 41 8080808008 0b;BadLeb at 2
+00 02 40 05 0b 0b;BadForm at 3
+00 04 40 05 05 0b 0b;BadForm at 4
+00 02 7c 0b 0b;FloatUsed at 2
+00 11 00 01 0b;BadForm at 3
+00 c0 0b;BadOpcode at 1
+00 02 40 0b;SectionSize at 4";
+
+fn told(rt: &HostRuntime, bytes: &[u8]) -> Result<String, Fail> {
     if bytes.is_empty() {
-        return None;
+        return Err("no bytes".into());
     }
     match read_code(rt.alloc(), bytes, 1, bytes.len()) {
-        Ok(_) => None,
-        Err(fault) => Some((fault.kind, fault.place)),
+        Ok((code, after)) => Ok(format!(in rt.alloc(); "after {after} {code:?}")?),
+        Err(fault) => Ok(format!(in rt.alloc(); "{:?} at {}", fault.kind, fault.place)?),
     }
 }
 
 #[test]
 fn expressions(rt: HostRuntime) -> Result<(), Fail> {
-    let bytes = [0xFF, 0x41, 0xFF, 0x7F, 0x1A, 0x0B, 0x0B];
-    let (code, after) = read_code(rt.alloc(), &bytes, 1, 7).ok().ok_or("a fault")?;
-    assert_eq!(rt; after, 6);
-    assert_eq!(rt; code.len(), 3);
-    assert!(rt; code[1] == Instr::Drop);
-    Ok(())
-}
-
-#[test]
-fn faults(rt: HostRuntime) {
-    use ReadKind::*;
-    let cases: [(&[u8], Option<(ReadKind, u32)>); 12] = [
-        (&[0, 0x0B], None),
-        // a number of more bytes than it needs
-        (&[0, 0x20, 0x80, 0x80, 0x80, 0x80, 0x00, 0x0B], None),
-        (
-            &[0, 0x20, 0x80, 0x80, 0x80, 0x80, 0x80, 0x00, 0x0B],
-            Some((BadLeb, 2)),
-        ),
-        (
-            &[0, 0x20, 0x80, 0x80, 0x80, 0x80, 0x10, 0x0B],
-            Some((BadLeb, 2)),
-        ),
-        (&[0, 0x41, 0x80, 0x80, 0x80, 0x80, 0x78, 0x0B], None),
-        (
-            &[0, 0x41, 0x80, 0x80, 0x80, 0x80, 0x08, 0x0B],
-            Some((BadLeb, 2)),
-        ),
-        (&[0, 0x02, 0x40, 0x05, 0x0B, 0x0B], Some((BadForm, 3))),
-        (&[0, 0x04, 0x40, 0x05, 0x05, 0x0B, 0x0B], Some((BadForm, 4))),
-        (&[0, 0x02, 0x7C, 0x0B, 0x0B], Some((FloatUsed, 2))),
-        (&[0, 0x11, 0x00, 0x01, 0x0B], Some((BadForm, 3))),
-        (&[0, 0xC0, 0x0B], Some((BadOpcode, 1))),
-        (&[0, 0x02, 0x40, 0x0B], Some((SectionSize, 4))),
-    ];
-    for (bytes, wanted) in cases {
-        let found = fault_of(&rt, bytes);
-        assert!(rt; found == wanted, "{bytes:?} gives {found:?}");
+    for row in ROWS.split('\n') {
+        let (digits, wanted) = row.split_once(';').ok_or("no text")?;
+        let found = told(&rt, &bytes_of(&rt, b"", digits)?)?;
+        assert!(rt; found.as_str() == wanted, "{row}: {found}");
     }
+    Ok(())
 }

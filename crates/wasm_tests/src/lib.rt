@@ -7,6 +7,8 @@ mod code;
 #[cfg(test)]
 mod reader;
 #[cfg(test)]
+mod told;
+#[cfg(test)]
 mod types;
 #[cfg(test)]
 mod writer;

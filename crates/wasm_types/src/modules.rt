@@ -1,11 +1,12 @@
 //! Modules and their parts (section 2.5).
 
 use crate::instructions::Instr;
-use crate::types::{FuncType, GlobalType, Limits, ValueType};
+use crate::locals::Locals;
+use crate::types::{FuncType, GlobalType, Limits};
 use items::Items;
 
 /// A module (section 2.5). Indices of functions, tables, memories and globals count the imported ones first.
-#[derive(Debug, Drop, PartialEq, Eq)]
+#[derive(Debug, Drop)]
 pub struct Module {
     pub types: Items<FuncType>,
     pub imports: Items<Import>,
@@ -22,7 +23,7 @@ pub struct Module {
 }
 
 /// An import (section 2.5.11). Both names are UTF-8.
-#[derive(Debug, Drop, PartialEq, Eq)]
+#[derive(Debug, Drop)]
 pub struct Import {
     pub module: Items<u8>,
     pub name: Items<u8>,
@@ -39,7 +40,7 @@ pub enum ImportKind {
 }
 
 /// A global that the module defines, with the expression of its first value (section 2.5.6).
-#[derive(Debug, Drop, PartialEq, Eq)]
+#[derive(Debug, Drop)]
 pub struct GlobalItem {
     pub kind: GlobalType,
     pub start: Items<Instr>,
@@ -54,7 +55,7 @@ pub enum ExportKind {
 }
 
 /// An export (section 2.5.10). The name is UTF-8.
-#[derive(Debug, Drop, PartialEq, Eq)]
+#[derive(Debug, Drop)]
 pub struct Export {
     pub name: Items<u8>,
     pub kind: ExportKind,
@@ -62,22 +63,23 @@ pub struct Export {
 }
 
 /// Functions that stand in a table from an offset on when the module starts (section 2.5.7).
-#[derive(Debug, Drop, PartialEq, Eq)]
+#[derive(Debug, Drop)]
 pub struct Element {
     pub table: u32,
     pub offset: Items<Instr>,
     pub functions: Items<u32>,
 }
 
-/// What a function does (section 2.5.3). `locals` has one item per local; parameters aren't among them.
-#[derive(Debug, Drop, PartialEq, Eq)]
+/// What a function does (section 2.5.3). Contracts see one item of `locals` per local; parameters aren't
+/// among them.
+#[derive(Debug, Drop)]
 pub struct Code {
-    pub locals: Items<ValueType>,
+    pub locals: Locals,
     pub body: Items<Instr>,
 }
 
 /// Bytes that stand in a memory from an offset on when the module starts (section 2.5.8).
-#[derive(Debug, Drop, PartialEq, Eq)]
+#[derive(Debug, Drop)]
 pub struct Segment {
     pub memory: u32,
     pub offset: Items<Instr>,

@@ -2,6 +2,8 @@
 use Rattle.std.proofs.Common.{◌≡◌, ℕ, ◌+◌, ◌≤◌, Bool, true, false, cond, ltb, ◌&&◌, Option, Some, None, Ok, Err, List, [], ◌∷◌, length, refl, sym, ap, subst, ◌∙◌, arith}
 use Rattle.std.proofs.lemmas.Bool.{le-ltb}
 use Rattle.std.specs.List.{slice_get}
+use Rattle.wasm_types.specs.Types.{same_result}
+use Rattle.wasm_types.proofs.Groups.{same_is, same_self}
 use Rattle.wasm_types.specs.declared.types.ValueType.{ValueType}
 use Rattle.wasm_types.specs.declared.types.ValueType.TheVariants.{I32, I64}
 use Rattle.wasm_types.specs.declared.types.GlobalType.{GlobalType}
@@ -14,7 +16,7 @@ use Rattle.wasm_validate.specs.Steps.{found}
 use Rattle.wasm_validate.specs.Rules.{type_of, Mono, rule_of}
 use Rattle.wasm_validate.specs.Typing.{Types, IsTyped, AreTyped}
 use Rattle.wasm_validate.specs.Valid.{IsConstant, AreConstant, sees, GivesConstant}
-use Rattle.wasm_validate.specs.Parts.{one_constant, is_end, constants, same_kind, is_one, constant, needs}
+use Rattle.wasm_validate.specs.Parts.{one_constant, is_end, constants, is_one, constant, needs}
 use Rattle.wasm_validate.proofs.Results.{bind_ok, needs_ok, guard_ok, done, ok_is}
 
 pub found_ok : {A E : Type 0} (e : E) (o : Option A) (x : A) → found e o ≡ Ok x → o ≡ Some x
@@ -91,17 +93,7 @@ typed_run (InLoop r inner rest) globals seen ts k h low = absurd k
 typed_run (InIf r inner rest) globals seen ts k h low = absurd k
 typed_run (InIfElse r first second rest) globals seen ts k h low = absurd k
 
-same_is : (t u : ValueType) → same_kind t (Some u) ≡ true → t ≡ u
-same_is I32 I32 e = refl
-same_is I32 I64 e = absurd cc
-same_is I64 I32 e = absurd cc
-same_is I64 I64 e = refl
-
-same_self : (t : ValueType) → same_kind t (Some t) ≡ true
-same_self I32 = refl
-same_self I64 = refl
-
-no_type : (t : ValueType) → (same_kind t None && true) ≡ true → ⊥
+no_type : (t : ValueType) → (same_result (Some t) None && true) ≡ true → ⊥
 no_type I32 e = cc
 no_type I64 e = cc
 
@@ -115,8 +107,8 @@ and_second false b e = absurd cc
 
 one_is : (t : ValueType) (ts : Types) → is_one t ts ≡ true → ts ≡ t ∷ []
 one_is t [] e = absurd (no_type t e)
-one_is t (u ∷ []) e = ap (λ (z : ValueType). z ∷ []) (sym (same_is t u (and_first (same_kind t (Some u)) true e)))
-one_is t (u ∷ v ∷ ts) e = absurd (let f = and_second (same_kind t (Some u)) false e in cc)
+one_is t (u ∷ []) e = ap (λ (z : ValueType). z ∷ []) (sym (same_is t u (and_first (same_result (Some t) (Some u)) true e)))
+one_is t (u ∷ v ∷ ts) e = absurd (let f = and_second (same_result (Some t) (Some u)) false e in cc)
 
 pub constant_ok : (globals : List GlobalType) (t : ValueType) (code : List Instr) (body : Body) → Nests code body → constant globals t code ≡ Ok tt → GivesConstant globals t code
 constant_ok globals t code body nests e =

@@ -27,7 +27,7 @@ Fits (k ∷ known) below [] = ⊥
 Fits (k ∷ known) below (x ∷ xs) = Can k x × Fits known below xs
 
 abbrev pub Of : Operands → Types → Type 0
-Of o xs = Fits o.known o.below xs
+Of o xs = Fits o.known o.unreachable xs
 
 -- a step, and where it leads from one stack to another
 abbrev pub Step : Type 0
@@ -40,7 +40,7 @@ abbrev pub Complete : Step → (Types → Types → Type 0) → Type 0
 Complete f R = (o : Operands) (xs ys : Types) → Of o xs → R xs ys → (p : Operands) × (f o ≡ Ok p) × Of p ys
 
 abbrev make : ℕ → Bool → Known → Operands
-make b w known = record { base = b; below = w; known = known }
+make b w known = record { height = b; unreachable = w; known = known }
 
 same_operands : (o p : Operands) → done {E = ValidKind} o ≡ done {E = ValidKind} p → o ≡ p
 same_operands o p e = ok_is {E = ValidKind} o p e
@@ -78,15 +78,15 @@ take_complete t b true [] ys h = (make b true [], refl, tt)
 take_complete t b false [] ys h = absurd cc
 
 pub one_sound : (t : ValueType) → Sound (take_one t) (λ xs ys. xs ≡ t ∷ ys)
-one_sound t o p e ys h = (t ∷ ys, take_sound t o.base o.below o.known p e ys h, refl)
+one_sound t o p e ys h = (t ∷ ys, take_sound t o.height o.unreachable o.known p e ys h, refl)
 
 pub one_complete : (t : ValueType) → Complete (take_one t) (λ xs ys. xs ≡ t ∷ ys)
-one_complete t o xs ys h e = take_complete t o.base o.below o.known ys (subst (λ (zs : Types). Of o zs) e h)
+one_complete t o xs ys h e = take_complete t o.height o.unreachable o.known ys (subst (λ (zs : Types). Of o zs) e h)
 
 -- ---- several operands
 
 pub all_sound : (ts : Types) → Sound (take_all ts) (λ xs ys. xs ≡ ts ++ ys)
-all_sound [] o p e ys h = (ys, of_taken o.base o.below o.known p ys e h, refl)
+all_sound [] o p e ys h = (ys, of_taken o.height o.unreachable o.known p ys e h, refl)
 all_sound (t ∷ ts) o p e ys h =
     let b = bind_ok (take_one t o) (take_all ts) p e in
     let r = all_sound ts b.0 p b.2 ys h in
@@ -100,14 +100,14 @@ all_complete (t ∷ ts) o xs ys h e =
     let r = all_complete ts f.0 (ts ++ ys) ys f.2 refl in
     (r.0, rw f.1 r.1, r.2)
 
-give_below : (ts : Types) (o : Operands) → (give ts o).below ≡ o.below
+give_below : (ts : Types) (o : Operands) → (give ts o).unreachable ≡ o.unreachable
 give_below [] o = refl
 give_below (t ∷ ts) o = refl
 
-below_given : (ts : Types) (o : Operands) (ys : Types) → Fits (give ts o).known o.below ys → Of (give ts o) ys
+below_given : (ts : Types) (o : Operands) (ys : Types) → Fits (give ts o).known o.unreachable ys → Of (give ts o) ys
 below_given ts o ys h = subst (λ (w : Bool). Fits (give ts o).known w ys) (sym (give_below ts o)) h
 
-given_below : (ts : Types) (o : Operands) (ys : Types) → Of (give ts o) ys → Fits (give ts o).known o.below ys
+given_below : (ts : Types) (o : Operands) (ys : Types) → Of (give ts o) ys → Fits (give ts o).known o.unreachable ys
 given_below ts o ys h = subst (λ (w : Bool). Fits (give ts o).known w ys) (give_below ts o) h
 
 joined : (t y : ValueType) (ts ys xs : Types) → t ≡ y → ys ≡ ts ++ xs → y ∷ ys ≡ t ∷ (ts ++ xs)
@@ -212,13 +212,13 @@ rule_sound (Mono takes gives) o p e ys h =
     (a.0, a.1, (g.0, a.2, g.2))
 rule_sound (Leaves takes) o p e ys h =
     let b = bind_ok (take_all takes o) (λ q. done (left q)) p e in
-    let s = some_stack b.0.known b.0.below in
+    let s = some_stack b.0.known b.0.unreachable in
     let a = all_sound takes o b.0 b.1 s.0 s.1 in
     (a.0, a.1, (s.0, a.2))
-rule_sound AnyDrop o p e ys h = drop_sound o.base o.below o.known p e ys h
+rule_sound AnyDrop o p e ys h = drop_sound o.height o.unreachable o.known p e ys h
 rule_sound AnySelect o p e ys h =
     let b = bind_ok (take_one I32 o) pair_off p e in
-    let d = pair_sound b.0.base b.0.below b.0.known p b.2 ys h in
+    let d = pair_sound b.0.height b.0.unreachable b.0.known p b.2 ys h in
     let a = one_sound I32 o b.0 b.1 (d.0 ∷ d.0 ∷ d.1) d.3 in
     (a.0, a.1, (d.0, d.1, a.2, d.2))
 
@@ -229,10 +229,10 @@ rule_complete (Mono takes gives) o xs ys h m =
 rule_complete (Leaves takes) o xs ys h m =
     let a = all_complete takes o xs m.0 h m.1 in
     (left a.0, rw a.1 refl, tt)
-rule_complete AnyDrop o xs ys h m = drop_complete o.base o.below o.known m.0 ys (subst (λ (zs : Types). Of o zs) m.1 h)
+rule_complete AnyDrop o xs ys h m = drop_complete o.height o.unreachable o.known m.0 ys (subst (λ (zs : Types). Of o zs) m.1 h)
 rule_complete AnySelect o xs ys h m =
     let a = one_complete I32 o xs (m.0 ∷ m.0 ∷ m.1) h m.2 in
-    let d = pair_complete a.0.base a.0.below a.0.known m.0 m.1 a.2 in
+    let d = pair_complete a.0.height a.0.unreachable a.0.known m.0 m.1 a.2 in
     (d.0, rw a.1 d.1, subst (λ (zs : Types). Of d.0 zs) (sym m.3) d.2)
 
 -- ---- the end of a block
@@ -250,10 +250,10 @@ pub ends_sound : (r : Option ValueType) (o p : Operands) → ends r o ≡ Ok p �
 ends_sound r o p e =
     let b = bind_ok (take_all (listed r) o) (λ q. cond (is_nil q.known) (done q) (Err TypeMismatch)) p e in
     let n = needs_ok (is_nil b.0.known) TypeMismatch (done b.0) p b.2 in
-    let a = all_sound (listed r) o b.0 b.1 [] (nothing_left b.0.below b.0.known n.0) in
+    let a = all_sound (listed r) o b.0 b.1 [] (nothing_left b.0.unreachable b.0.known n.0) in
     subst (λ (zs : Types). Of o zs) (a.2 ∙ append-nil (listed r)) a.1
 
 pub ends_complete : (r : Option ValueType) (o : Operands) → Of o (listed r) → (p : Operands) × (ends r o ≡ Ok p)
 ends_complete r o h =
     let a = all_complete (listed r) o (listed r) [] h (sym (append-nil (listed r))) in
-    (a.0, rw (a.1, left_nothing a.0.below a.0.known a.2) refl)
+    (a.0, rw (a.1, left_nothing a.0.unreachable a.0.known a.2) refl)

@@ -9,7 +9,7 @@ use Rattle.basics.specs.declared.stop.Stop.{Stop}
 use Rattle.basics.specs.declared.stop.Stop.TheVariants as stops
 use Rattle.basics.specs.Stops.{Fails}
 use Rattle.wasm_validate.specs.Faults.{told_of, memory_fault}
-use Rattle.wasm_validate.specs.Spaces.{functions_in, globals_in, setting_of}
+use Rattle.wasm_validate.specs.Spaces.{functions_in, globals_in, context_of}
 use Rattle.wasm_validate.specs.Valid.{AllAt, HasType, GivesConstant, IsExport, IsElement, IsFunction, IsSegment, IsValid}
 use Rattle.wasm_validate.specs.Ready.{IsReady, IsExpression, params_count}
 use Rattle.wasm_validate.specs.Parts.{needs, placed, import_type, constant, export_at, start_at, element, segment, code_at, imports_at, functions_at, globals_at, exports_at, elements_at, bodies_at, segments_at, tables_at, memories_at, later_fault, rest_fault, first_fault}
@@ -47,49 +47,49 @@ all_globals : (m : Module) → AllAt (λ _ g. GivesConstant (globals_in m.import
 unfolding globals_at
 all_globals m a = all_every parts.Global (λ _ g. constant (globals_in m.imports) g.kind.kind g.start) (λ _ g. GivesConstant (globals_in m.imports) g.kind.kind g.start) (λ k g h. ok_constant (globals_in m.imports) g.kind.kind g.start h) m.globals a
 
-exports_all : (m : Module) → exports_at (setting_of m [] None) m.exports ≡ Ok tt → AllAt (IsExport m) 0 m.exports
+exports_all : (m : Module) → exports_at (context_of m [] None) m.exports ≡ Ok tt → AllAt (IsExport m) 0 m.exports
 unfolding exports_at
-exports_all m e = every_all parts.Export (export_at (setting_of m [] None) m.exports) (IsExport m) (λ k x h. export_ok m k x h) m.exports e
+exports_all m e = every_all parts.Export (export_at (context_of m [] None) m.exports) (IsExport m) (λ k x h. export_ok m k x h) m.exports e
 
-all_exports : (m : Module) → AllAt (IsExport m) 0 m.exports → exports_at (setting_of m [] None) m.exports ≡ Ok tt
+all_exports : (m : Module) → AllAt (IsExport m) 0 m.exports → exports_at (context_of m [] None) m.exports ≡ Ok tt
 unfolding exports_at
-all_exports m a = all_every parts.Export (export_at (setting_of m [] None) m.exports) (IsExport m) (λ k x h. ok_export m k x h) m.exports a
+all_exports m a = all_every parts.Export (export_at (context_of m [] None) m.exports) (IsExport m) (λ k x h. ok_export m k x h) m.exports a
 
-elements_all : (m : Module) → IsReady m → elements_at (setting_of m [] None) m.elements ≡ Ok tt → AllAt (IsElement m) 0 m.elements
+elements_all : (m : Module) → IsReady m → elements_at (context_of m [] None) m.elements ≡ Ok tt → AllAt (IsElement m) 0 m.elements
 unfolding elements_at
 elements_all m ready e =
-    all_each_with (placed parts.Element (λ _ x. element (setting_of m [] None) x)) (IsElement m) (λ _ x. IsExpression x.offset)
-    (λ k x q h. element_ok m k x q.0.0 q.0.1 (placed_ok parts.Element k (element (setting_of m [] None) x) tt h)) 0 m.elements ready.element_offsets e
+    all_each_with (placed parts.Element (λ _ x. element (context_of m [] None) x)) (IsElement m) (λ _ x. IsExpression x.offset)
+    (λ k x q h. element_ok m k x q.0.0 q.0.1 (placed_ok parts.Element k (element (context_of m [] None) x) tt h)) 0 m.elements ready.element_offsets e
 
-all_elements : (m : Module) → AllAt (IsElement m) 0 m.elements → elements_at (setting_of m [] None) m.elements ≡ Ok tt
+all_elements : (m : Module) → AllAt (IsElement m) 0 m.elements → elements_at (context_of m [] None) m.elements ≡ Ok tt
 unfolding elements_at
-all_elements m a = all_every parts.Element (λ _ x. element (setting_of m [] None) x) (IsElement m) (λ k x h. ok_element m k x h) m.elements a
+all_elements m a = all_every parts.Element (λ _ x. element (context_of m [] None) x) (IsElement m) (λ k x h. ok_element m k x h) m.elements a
 
-bodies_all : (m : Module) (first : ℕ) → IsReady m → bodies_at (setting_of m [] None) first m.functions m.code ≡ Ok tt → AllAt (IsFunction m) 0 m.code
+bodies_all : (m : Module) (first : ℕ) → IsReady m → bodies_at (context_of m [] None) first m.functions m.code ≡ Ok tt → AllAt (IsFunction m) 0 m.code
 unfolding bodies_at
 bodies_all m first ready e =
-    all_each_with (code_at (setting_of m [] None) first m.functions) (IsFunction m) (λ k x. (params_count m k + length x.locals ≤ 4096) × IsExpression x.body)
+    all_each_with (code_at (context_of m [] None) first m.functions) (IsFunction m) (λ k x. (params_count m k + length x.locals ≤ 4096) × IsExpression x.body)
     (λ k x q h. code_ok m first k x q.1.0.0 q.1.0.1 h) 0 m.code ready.bodies e
 
-all_bodies : (m : Module) (first : ℕ) → AllAt (IsFunction m) 0 m.code → bodies_at (setting_of m [] None) first m.functions m.code ≡ Ok tt
+all_bodies : (m : Module) (first : ℕ) → AllAt (IsFunction m) 0 m.code → bodies_at (context_of m [] None) first m.functions m.code ≡ Ok tt
 unfolding bodies_at
-all_bodies m first a = all_each (code_at (setting_of m [] None) first m.functions) (IsFunction m) (λ k x h. ok_code m first k x h) 0 m.code a
+all_bodies m first a = all_each (code_at (context_of m [] None) first m.functions) (IsFunction m) (λ k x h. ok_code m first k x h) 0 m.code a
 
-segments_all : (m : Module) → IsReady m → segments_at (setting_of m [] None) m.segments ≡ Ok tt → AllAt (IsSegment m) 0 m.segments
+segments_all : (m : Module) → IsReady m → segments_at (context_of m [] None) m.segments ≡ Ok tt → AllAt (IsSegment m) 0 m.segments
 unfolding segments_at
 segments_all m ready e =
-    all_each_with (placed parts.Data (λ _ x. segment (setting_of m [] None) x)) (IsSegment m) (λ _ x. IsExpression x.offset)
-    (λ k x q h. segment_ok m k x q.0.0 q.0.1 (placed_ok parts.Data k (segment (setting_of m [] None) x) tt h)) 0 m.segments ready.offsets e
+    all_each_with (placed parts.Data (λ _ x. segment (context_of m [] None) x)) (IsSegment m) (λ _ x. IsExpression x.offset)
+    (λ k x q h. segment_ok m k x q.0.0 q.0.1 (placed_ok parts.Data k (segment (context_of m [] None) x) tt h)) 0 m.segments ready.offsets e
 
-all_segments : (m : Module) → AllAt (IsSegment m) 0 m.segments → segments_at (setting_of m [] None) m.segments ≡ Ok tt
+all_segments : (m : Module) → AllAt (IsSegment m) 0 m.segments → segments_at (context_of m [] None) m.segments ≡ Ok tt
 unfolding segments_at
-all_segments m a = all_every parts.Data (λ _ x. segment (setting_of m [] None) x) (IsSegment m) (λ k x h. ok_segment m k x h) m.segments a
+all_segments m a = all_every parts.Data (λ _ x. segment (context_of m [] None) x) (IsSegment m) (λ k x h. ok_segment m k x h) m.segments a
 
 -- ---- the module
 
 pub faultless_valid : (m : Module) → IsReady m → first_fault m ≡ Ok tt → IsValid m
 faultless_valid m ready e =
-    let c = setting_of m [] None in
+    let c = context_of m [] None in
     let first = length (functions_in m.imports) in
     let a = bind_ok (imports_at m.types m.imports) (λ _. functions_at m.types m.functions >>= λ _. tables_at m >>= λ _. memories_at m >>= λ _. rest_fault m) tt e in
     let b = bind_ok (functions_at m.types m.functions) (λ _. tables_at m >>= λ _. memories_at m >>= λ _. rest_fault m) tt a.2 in
@@ -119,7 +119,7 @@ faultless_valid m ready e =
 
 pub valid_faultless : (m : Module) → IsValid m → first_fault m ≡ Ok tt
 valid_faultless m v =
-    let c = setting_of m [] None in
+    let c = context_of m [] None in
     let first = length (functions_in m.imports) in
     let tables = ok_tables m v.tables v.one_table in
     let memories = ok_memories m v.memories v.one_memory in

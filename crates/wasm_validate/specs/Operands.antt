@@ -8,11 +8,11 @@ use Rattle.wasm_types.specs.declared.instructions.Instr.{Instr}
 use Rattle.wasm_validate.specs.declared.fault.ValidKind.{ValidKind}
 use Rattle.wasm_validate.specs.declared.fault.ValidKind.TheVariants.{TypeMismatch, TooHigh}
 use Rattle.wasm_validate.specs.declared.operands.Operands.{Operands}
-use Rattle.wasm_validate.specs.declared.checker.Sort.{Sort}
-use Rattle.wasm_validate.specs.declared.checker.Sort.TheVariants as sorts
+use Rattle.wasm_validate.specs.declared.checker.BlockKind.{BlockKind}
+use Rattle.wasm_validate.specs.declared.checker.BlockKind.TheVariants as blocks
 use Rattle.wasm_validate.specs.Lists.{is_nil}
 use Rattle.wasm_validate.specs.Steps.{◌>>=◌, unless}
-use Rattle.wasm_validate.specs.Rules.{Setting, Labels, Rule, Mono, Leaves, AnyDrop, AnySelect, rule_of, misuse}
+use Rattle.wasm_validate.specs.Rules.{Context, Labels, Rule, Mono, Leaves, AnyDrop, AnySelect, rule_of, misuse}
 
 abbrev pub Known : Type 0
 Known = List (Option ValueType)
@@ -36,7 +36,7 @@ pop_known true [] = Ok (None, [])
 pop_known false [] = Err TypeMismatch
 
 abbrev pub pop : Operands → Result (Option ValueType × Operands) ValidKind
-pop o = pop_known o.below o.known >>= λ p. Ok (p.0, with_known o p.1)
+pop o = pop_known o.unreachable o.known >>= λ p. Ok (p.0, with_known o p.1)
 
 abbrev pub take_one : ValueType → Operands → Result Operands ValidKind
 take_one t o = pop o >>= λ p. if is_type t p.0 then Ok p.1 else Err TypeMismatch
@@ -51,7 +51,7 @@ give (t ∷ ts) o = with_known o (Some t ∷ (give ts o).known)
 
 -- the code that follows is never reached
 abbrev pub left : Operands → Operands
-left o = record o { below = true; known = [] }
+left o = record o { unreachable = true; known = [] }
 
 -- what both of two operands can be
 abbrev pub meet : Option ValueType → Option ValueType → Result (Option ValueType) ValidKind
@@ -68,30 +68,30 @@ by_rule AnySelect o = take_one I32 o >>= λ o. pop o >>= λ p. pop p.1 >>= λ q.
 -- ---- an instruction
 
 -- how many operands there are, those of the blocks round this one included
-abbrev pub height : Operands → ℕ
-height o = o.base + length o.known
+abbrev pub stacked : Operands → ℕ
+stacked o = o.height + length o.known
 
 abbrev pub low : Operands → Result Operands ValidKind
-low o = if nat_lt 1024 (height o) then Err TooHigh else Ok o
+low o = if nat_lt 1024 (stacked o) then Err TooHigh else Ok o
 
-abbrev pub typed : Setting → Labels → Instr → Operands → Result Operands ValidKind
+abbrev pub typed : Context → Labels → Instr → Operands → Result Operands ValidKind
 typed c labels i o = rule_of c labels i >>= λ rule. by_rule rule o
 
-abbrev pub plain : Setting → Labels → Instr → Operands → Result Operands ValidKind
+abbrev pub plain : Context → Labels → Instr → Operands → Result Operands ValidKind
 plain c labels i o = typed c labels i o >>= λ next. unless next (misuse c i) >>= low
 
 -- ---- a block
 
 abbrev pub none : Operands
-none = record { base = 0; below = false; known = [] }
+none = record { height = 0; unreachable = false; known = [] }
 
 -- a block begins with no operands, above those that are there
 abbrev pub fresh : Operands → Operands
-fresh o = record { base = height o; below = false; known = [] }
+fresh o = record { height = stacked o; unreachable = false; known = [] }
 
 -- and so does the second part of an if
 abbrev pub again : Operands → Operands
-again o = record { base = o.base; below = false; known = [] }
+again o = record { height = o.height; unreachable = false; known = [] }
 
 -- a block ends with its result and nothing else
 abbrev pub ends : Option ValueType → Operands → Result Operands ValidKind
@@ -102,6 +102,6 @@ abbrev pub given : Option ValueType → Operands → Result Operands ValidKind
 given r o = low (give (listed r) o)
 
 -- an if without an else has no result
-abbrev pub missing : Sort → Option ValueType → Option ValidKind
-missing sorts.If (Some t) = Some TypeMismatch
-missing sort r = None
+abbrev pub missing : BlockKind → Option ValueType → Option ValidKind
+missing blocks.If (Some t) = Some TypeMismatch
+missing block_kind r = None

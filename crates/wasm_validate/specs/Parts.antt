@@ -3,6 +3,7 @@ use Rattle.std.specs.Prelude.{ℕ, ◌+◌, nat_lt, nat_le, ◌&&◌, ◌||◌, 
 use Rattle.std.specs.Str.{bytes_eq}
 use Rattle.wasm_types.specs.declared.types.ValueType.{ValueType}
 use Rattle.wasm_types.specs.declared.types.ValueType.TheVariants.{I32, I64}
+use Rattle.wasm_types.specs.Types.{same_result}
 use Rattle.wasm_types.specs.declared.types.FuncType.{FuncType}
 use Rattle.wasm_types.specs.declared.types.GlobalType.{GlobalType}
 use Rattle.wasm_types.specs.declared.types.Limits.{Limits}
@@ -27,9 +28,9 @@ use Rattle.wasm_validate.specs.declared.fault.ValidFault.{ValidFault}
 use Rattle.wasm_validate.specs.Lists.{head_of, tail_of, is_nil}
 use Rattle.wasm_validate.specs.Steps.{◌>>=◌, found, told}
 use Rattle.wasm_validate.specs.Faults.{in_part}
-use Rattle.wasm_validate.specs.Rules.{Setting, type_of, type_at, function_at}
+use Rattle.wasm_validate.specs.Rules.{Context, type_of, type_at, function_at}
 use Rattle.wasm_validate.specs.Scanning.{scan, outset}
-use Rattle.wasm_validate.specs.Spaces.{functions_in, globals_in, sizes_in, setting_of}
+use Rattle.wasm_validate.specs.Spaces.{functions_in, globals_in, sizes_in, context_of}
 
 abbrev pub Checked : Type 0
 Checked = Result (Unit {0}) ValidKind
@@ -92,22 +93,15 @@ constants [] globals seen = Ok seen
 constants (i ∷ code) globals seen =
     if is_end i then Ok seen else (one_constant globals i >>= λ t. if nat_lt 1024 (1 + length seen) then Err TooHigh else constants code globals (t ∷ seen))
 
-abbrev pub same_kind : ValueType → Option ValueType → Bool
-same_kind t None = false
-same_kind I32 (Some I32) = true
-same_kind I32 (Some I64) = false
-same_kind I64 (Some I32) = false
-same_kind I64 (Some I64) = true
-
 abbrev pub is_one : ValueType → List ValueType → Bool
-is_one t ts = same_kind t (head_of ts) && is_nil (tail_of ts)
+is_one t ts = same_result (Some t) (head_of ts) && is_nil (tail_of ts)
 
 abbrev pub constant : List GlobalType → ValueType → List Instr → Checked
 constant globals t code = constants code globals [] >>= λ ts. needs (is_one t ts) TypeMismatch
 
 -- ---- exports
 
-abbrev pub count_in : Setting → ExportKind → ℕ
+abbrev pub count_in : Context → ExportKind → ℕ
 count_in c exports.Function = length c.functions
 count_in c exports.Table = c.tables
 count_in c exports.Memory = c.memories
@@ -123,7 +117,7 @@ abbrev pub any_named : List ℕ → List Export → Bool
 any_named name [] = false
 any_named name (e ∷ es) = bytes_eq e.name name || any_named name es
 
-abbrev pub export_at : Setting → List Export → ℕ → Export → Checked
+abbrev pub export_at : Context → List Export → ℕ → Export → Checked
 export_at c all k e =
     needs (nat_lt e.index (count_in c e.kind)) (unknown e.kind) >>= λ _. if any_named e.name (take k all) then Err DuplicateExport else Ok tt
 
@@ -133,10 +127,10 @@ abbrev pub gives_nothing : Option ValueType → Bool
 gives_nothing None = true
 gives_nothing (Some t) = false
 
-abbrev pub start : Setting → ℕ → Checked
+abbrev pub start : Context → ℕ → Checked
 start c f = function_at c f >>= λ t. needs (is_nil t.params && gives_nothing t.result) BadStart
 
-abbrev pub start_at : Setting → Option ℕ → Result (Unit {0}) ValidFault
+abbrev pub start_at : Context → Option ℕ → Result (Unit {0}) ValidFault
 start_at c None = Ok tt
 start_at c (Some f) = in_part parts.Start 0 (told 0 (start c f))
 
@@ -146,22 +140,22 @@ abbrev pub all_below : ℕ → List ℕ → Bool
 all_below n [] = true
 all_below n (x ∷ xs) = nat_lt x n && all_below n xs
 
-abbrev pub element : Setting → Element → Checked
+abbrev pub element : Context → Element → Checked
 element c e =
     needs (nat_lt e.table c.tables) UnknownTable >>= λ _. constant c.globals I32 e.offset >>= λ _. needs (all_below (length c.functions) e.functions) UnknownFunction
 
-abbrev pub segment : Setting → Segment → Checked
+abbrev pub segment : Context → Segment → Checked
 segment c s = needs (nat_lt s.memory c.memories) UnknownMemory >>= λ _. constant c.globals I32 s.offset
 
 -- ---- bodies: the functions of the module stand behind those that are imported
 
-abbrev pub body_type : Setting → List ℕ → ℕ → Result FuncType ValidKind
+abbrev pub body_type : Context → List ℕ → ℕ → Result FuncType ValidKind
 body_type c own k = found UnknownFunction (slice_get own k) >>= type_at c
 
-abbrev pub inside : Setting → FuncType → Code → Setting
+abbrev pub inside : Context → FuncType → Code → Context
 inside c t code = record c { locals = t.params ++ code.locals; result = t.result }
 
-abbrev pub code_at : Setting → ℕ → List ℕ → ℕ → Code → Result (Unit {0}) ValidFault
+abbrev pub code_at : Context → ℕ → List ℕ → ℕ → Code → Result (Unit {0}) ValidFault
 code_at c first own k code = in_part parts.Code (first + k) (told 0 (body_type c own k) >>= λ t. scan code.body (inside c t code) (Some (outset t.result)))
 
 -- ---- all items of a part
@@ -175,22 +169,22 @@ functions_at types functions = every parts.Func (λ _ t. needs (nat_lt t (length
 unfoldable pub globals_at : List GlobalType → List GlobalItem → Result (Unit {0}) ValidFault
 globals_at globals items = every parts.Global (λ _ g. constant globals g.kind.kind g.start) items
 
-unfoldable pub exports_at : Setting → List Export → Result (Unit {0}) ValidFault
+unfoldable pub exports_at : Context → List Export → Result (Unit {0}) ValidFault
 exports_at c all = every parts.Export (export_at c all) all
 
-unfoldable pub elements_at : Setting → List Element → Result (Unit {0}) ValidFault
+unfoldable pub elements_at : Context → List Element → Result (Unit {0}) ValidFault
 elements_at c items = every parts.Element (λ _ e. element c e) items
 
-unfoldable pub bodies_at : Setting → ℕ → List ℕ → List Code → Result (Unit {0}) ValidFault
+unfoldable pub bodies_at : Context → ℕ → List ℕ → List Code → Result (Unit {0}) ValidFault
 bodies_at c first own code = each (code_at c first own) 0 code
 
-unfoldable pub segments_at : Setting → List Segment → Result (Unit {0}) ValidFault
+unfoldable pub segments_at : Context → List Segment → Result (Unit {0}) ValidFault
 segments_at c items = every parts.Data (λ _ s. segment c s) items
 
 -- ---- the whole module
 
 -- the parts that are checked in the whole module, not in its types alone
-abbrev pub later_fault : Setting → ℕ → Module → Result (Unit {0}) ValidFault
+abbrev pub later_fault : Context → ℕ → Module → Result (Unit {0}) ValidFault
 later_fault c first m =
     exports_at c m.exports >>= λ _.
     start_at c m.start >>= λ _.
@@ -207,7 +201,7 @@ memories_at m = sizes parts.Import 65536 0 0 (sizes_in exports.Memory m.imports)
 
 abbrev pub rest_fault : Module → Result (Unit {0}) ValidFault
 rest_fault m =
-    globals_at (globals_in m.imports) m.globals >>= λ _. later_fault (setting_of m [] None) (length (functions_in m.imports)) m
+    globals_at (globals_in m.imports) m.globals >>= λ _. later_fault (context_of m [] None) (length (functions_in m.imports)) m
 
 abbrev pub first_fault : Module → Result (Unit {0}) ValidFault
 first_fault m =

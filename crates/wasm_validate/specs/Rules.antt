@@ -3,6 +3,7 @@ use Rattle.std.specs.Prelude.{ℕ, nat_lt, Bool, true, false, ◌&&◌, if◌the
 use Rattle.std.specs.Option.{option_to_list}
 use Rattle.wasm_types.specs.declared.types.ValueType.{ValueType}
 use Rattle.wasm_types.specs.declared.types.ValueType.TheVariants.{I32, I64}
+use Rattle.wasm_types.specs.Types.{same_result}
 use Rattle.wasm_types.specs.declared.types.FuncType.{FuncType}
 use Rattle.wasm_types.specs.declared.types.GlobalType.{GlobalType}
 use Rattle.wasm_types.specs.declared.values.Value.{Value}
@@ -21,7 +22,7 @@ use Rattle.wasm_validate.specs.declared.fault.ValidKind.TheVariants.{UnknownType
 use Rattle.wasm_validate.specs.Steps.{◌>>=◌, found}
 
 -- What code stands in (section 3.1.1). A function is the index of its type; of tables and memories the count is enough.
-pub record Setting : Type 0 where
+pub record Context : Type 0 where
   pub types : List FuncType
   pub functions : List ℕ
   pub globals : List GlobalType
@@ -39,16 +40,16 @@ pub data Rule : Type 0 where
 
 -- ---- what indices name
 
-abbrev pub type_at : Setting → ℕ → Result FuncType ValidKind
+abbrev pub type_at : Context → ℕ → Result FuncType ValidKind
 type_at c x = found UnknownType (slice_get c.types x)
 
-abbrev pub function_at : Setting → ℕ → Result FuncType ValidKind
+abbrev pub function_at : Context → ℕ → Result FuncType ValidKind
 function_at c x = found UnknownFunction (slice_get c.functions x) >>= type_at c
 
-abbrev pub local_at : Setting → ℕ → Result ValueType ValidKind
+abbrev pub local_at : Context → ℕ → Result ValueType ValidKind
 local_at c x = found UnknownLocal (slice_get c.locals x)
 
-abbrev pub global_at : Setting → ℕ → Result GlobalType ValidKind
+abbrev pub global_at : Context → ℕ → Result GlobalType ValidKind
 global_at c x = found UnknownGlobal (slice_get c.globals x)
 
 -- A label has the types that a branch to it takes (section 3.3.5). Labels stand with the innermost one first.
@@ -59,11 +60,11 @@ abbrev pub label_at : Labels → ℕ → Result (Option ValueType) ValidKind
 label_at labels x = found UnknownLabel (slice_get labels x)
 
 -- the first table, the first memory
-abbrev pub some_table : Setting → Result ℕ ValidKind
-some_table c = if nat_lt 0 c.tables then Ok 0 else Err UnknownTable
+abbrev pub some_table : Context → Result (Unit {0}) ValidKind
+some_table c = if nat_lt 0 c.tables then Ok tt else Err UnknownTable
 
-abbrev pub some_memory : Setting → Result ℕ ValidKind
-some_memory c = if nat_lt 0 c.memories then Ok 0 else Err UnknownMemory
+abbrev pub some_memory : Context → Result (Unit {0}) ValidKind
+some_memory c = if nat_lt 0 c.memories then Ok tt else Err UnknownMemory
 
 -- ---- numbers and memory
 
@@ -134,16 +135,6 @@ conversion converts.ExtendI32U = I64
 abbrev pub params_of : FuncType → List ValueType
 params_of t = reverse t.params
 
--- labels of one type
-abbrev pub same_type : Option ValueType → Option ValueType → Bool
-same_type None None = true
-same_type None (Some u) = false
-same_type (Some t) None = false
-same_type (Some I32) (Some I32) = true
-same_type (Some I32) (Some I64) = false
-same_type (Some I64) (Some I32) = false
-same_type (Some I64) (Some I64) = true
-
 -- the type that the labels of a table have: each has to be there, and to have the type of the last one
 abbrev pub all_known : Labels → List ℕ → Bool
 all_known labels [] = true
@@ -151,7 +142,7 @@ all_known labels (x ∷ xs) = nat_lt x (length labels) && all_known labels xs
 
 abbrev pub has_type : Option ValueType → Option (Option ValueType) → Bool
 has_type t None = false
-has_type t (Some u) = same_type t u
+has_type t (Some u) = same_result t u
 
 abbrev pub all_same : Labels → Option ValueType → List ℕ → Bool
 all_same labels t [] = true
@@ -162,7 +153,7 @@ table_type labels xs other =
     label_at labels other >>= λ t. if all_known labels xs then (if all_same labels t xs then Ok t else Err TypeMismatch) else Err UnknownLabel
 
 -- the rule of an instruction that opens no block and closes none
-abbrev pub rule_of : Setting → Labels → Instr → Result Rule ValidKind
+abbrev pub rule_of : Context → Labels → Instr → Result Rule ValidKind
 rule_of c labels Unreachable = Ok (Leaves [])
 rule_of c labels (Br l) = label_at labels l >>= λ t. Ok (Leaves (option_to_list t))
 rule_of c labels (BrIf l) = label_at labels l >>= λ t. Ok (Mono (I32 ∷ option_to_list t) (option_to_list t))
@@ -202,7 +193,7 @@ abbrev pub fixed : Option GlobalType → Option ValidKind
 fixed None = None
 fixed (Some g) = if g.mutable then None else Some ImmutableGlobal
 
-abbrev pub misuse : Setting → Instr → Option ValidKind
+abbrev pub misuse : Context → Instr → Option ValidKind
 misuse c (GlobalSet x) = fixed (slice_get c.globals x)
 misuse c (Load kind align offset) = above (load_align kind) align
 misuse c (Store kind align offset) = above (store_align kind) align

@@ -10,7 +10,7 @@ use Rattle.wasm_types.specs.declared.modules.ExportKind.{ExportKind}
 use Rattle.wasm_types.specs.declared.modules.ExportKind.TheVariants as exports
 use Rattle.wasm_types.specs.declared.modules.GlobalItem.{GlobalItem}
 use Rattle.wasm_types.specs.declared.modules.Module.{Module}
-use Rattle.wasm_validate.specs.Rules.{Setting}
+use Rattle.wasm_validate.specs.Rules.{Context}
 
 abbrev pub function_in : ImportKind → List ℕ
 function_in (kinds.Function t) = t ∷ []
@@ -61,8 +61,8 @@ abbrev pub memories_of : Module → List Limits
 memories_of m = present (sizes_in exports.Memory m.imports) ++ m.memories
 
 -- what the code of a function with these locals and this result stands in
-abbrev pub setting_of : Module → List ValueType → Option ValueType → Setting
-setting_of m locals result = record {
+abbrev pub context_of : Module → List ValueType → Option ValueType → Context
+context_of m locals result = record {
   types = m.types;
   functions = functions_of m;
   globals = globals_of m;

@@ -6,7 +6,7 @@ use Rattle.wasm_types.specs.declared.types.ValueType.TheVariants.{I32}
 use Rattle.wasm_types.specs.declared.instructions.Instr.{Instr}
 use Rattle.wasm_types.specs.Nested.{Body, Done, Goes, InBlock, InLoop, InIf, InIfElse}
 use Rattle.wasm_validate.specs.declared.fault.ValidKind.{ValidKind}
-use Rattle.wasm_validate.specs.Rules.{Setting, Labels, Rule, Mono, Leaves, AnyDrop, AnySelect, rule_of, misuse}
+use Rattle.wasm_validate.specs.Rules.{Context, Labels, Rule, Mono, Leaves, AnyDrop, AnySelect, rule_of, misuse}
 
 -- a stack, the topmost operand first
 abbrev pub Types : Type 0
@@ -21,12 +21,12 @@ Moves AnyDrop xs ys = (t : ValueType) × (xs ≡ t ∷ ys)
 Moves AnySelect xs ys = (t : ValueType) × (below : Types) × (xs ≡ I32 ∷ t ∷ t ∷ below) × (ys ≡ t ∷ below)
 
 -- an instruction that is no block
-abbrev pub IsTyped : Setting → Labels → Instr → Types → Types → Type 0
+abbrev pub IsTyped : Context → Labels → Instr → Types → Types → Type 0
 IsTyped c labels i xs ys = (rule : Rule) × (rule_of c labels i ≡ Ok rule) × (misuse c i ≡ None) × Moves rule xs ys
 
 -- A sequence leads from one stack to another. A block sees none of the operands round it, and leaves its result
 -- (sections 3.3.5 and 3.3.6).
-abbrev pub AreTyped : Body → Setting → Labels → Types → Types → Type 0
+abbrev pub AreTyped : Body → Context → Labels → Types → Types → Type 0
 AreTyped Done c labels xs ys = xs ≡ ys
 AreTyped (Goes i p rest) c labels xs ys = (mid : Types) × IsTyped c labels i xs mid × AreTyped rest c labels mid ys
 AreTyped (InBlock r inner rest) c labels xs ys = AreTyped inner c (r ∷ labels) [] (listed r) × AreTyped rest c labels (listed r ++ xs) ys
@@ -48,18 +48,18 @@ left_by (Ok AnySelect) own = 1 + (own - 1 - 1 - 1)
 left_by (Err kind) own = own
 
 -- After no instruction are there more than 1,024 operands: those round the block, and its own.
-abbrev pub AreLow : Body → Setting → Labels → ℕ → ℕ → Type 0
-AreLow Done c labels base own = Unit {0}
-AreLow (Goes i p rest) c labels base own = (base + left_by (rule_of c labels i) own ≤ 1024) × AreLow rest c labels base (left_by (rule_of c labels i) own)
-AreLow (InBlock r inner rest) c labels base own =
-    AreLow inner c (r ∷ labels) (base + own) 0 × (base + (length (listed r) + own) ≤ 1024) × AreLow rest c labels base (length (listed r) + own)
-AreLow (InLoop r inner rest) c labels base own =
-    AreLow inner c (None ∷ labels) (base + own) 0 × (base + (length (listed r) + own) ≤ 1024) × AreLow rest c labels base (length (listed r) + own)
-AreLow (InIf r inner rest) c labels base own =
-    AreLow inner c (r ∷ labels) (base + (own - 1)) 0 × (base + (length (listed r) + (own - 1)) ≤ 1024) × AreLow rest c labels base (length (listed r) + (own - 1))
-AreLow (InIfElse r first second rest) c labels base own =
-    AreLow first c (r ∷ labels) (base + (own - 1)) 0 × AreLow second c (r ∷ labels) (base + (own - 1)) 0 × (base + (length (listed r) + (own - 1)) ≤ 1024) × AreLow rest c labels base (length (listed r) + (own - 1))
+abbrev pub AreLow : Body → Context → Labels → ℕ → ℕ → Type 0
+AreLow Done c labels height own = Unit {0}
+AreLow (Goes i p rest) c labels height own = (height + left_by (rule_of c labels i) own ≤ 1024) × AreLow rest c labels height (left_by (rule_of c labels i) own)
+AreLow (InBlock r inner rest) c labels height own =
+    AreLow inner c (r ∷ labels) (height + own) 0 × (height + (length (listed r) + own) ≤ 1024) × AreLow rest c labels height (length (listed r) + own)
+AreLow (InLoop r inner rest) c labels height own =
+    AreLow inner c (None ∷ labels) (height + own) 0 × (height + (length (listed r) + own) ≤ 1024) × AreLow rest c labels height (length (listed r) + own)
+AreLow (InIf r inner rest) c labels height own =
+    AreLow inner c (r ∷ labels) (height + (own - 1)) 0 × (height + (length (listed r) + (own - 1)) ≤ 1024) × AreLow rest c labels height (length (listed r) + (own - 1))
+AreLow (InIfElse r first second rest) c labels height own =
+    AreLow first c (r ∷ labels) (height + (own - 1)) 0 × AreLow second c (r ∷ labels) (height + (own - 1)) 0 × (height + (length (listed r) + (own - 1)) ≤ 1024) × AreLow rest c labels height (length (listed r) + (own - 1))
 
 -- a function's body (section 3.4.1), within the limit
-abbrev pub IsTypedBody : Setting → Body → Type 0
+abbrev pub IsTypedBody : Context → Body → Type 0
 IsTypedBody c body = AreTyped body c (c.result ∷ []) [] (listed c.result) × AreLow body c (c.result ∷ []) 0 0

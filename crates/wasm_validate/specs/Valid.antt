@@ -17,9 +17,9 @@ use Rattle.wasm_types.specs.declared.modules.Code.{Code}
 use Rattle.wasm_types.specs.declared.modules.Segment.{Segment}
 use Rattle.wasm_types.specs.declared.modules.Module.{Module}
 use Rattle.wasm_types.specs.Nested.{Body, Done, Goes, InBlock, InLoop, InIf, InIfElse, Nests}
-use Rattle.wasm_validate.specs.Rules.{Setting}
+use Rattle.wasm_validate.specs.Rules.{Context}
 use Rattle.wasm_validate.specs.Typing.{AreTyped, IsTypedBody}
-use Rattle.wasm_validate.specs.Spaces.{functions_of, globals_in, globals_of, tables_of, memories_of, setting_of}
+use Rattle.wasm_validate.specs.Spaces.{functions_of, globals_in, globals_of, tables_of, memories_of, context_of}
 
 -- each item of a list, with its index, is so
 abbrev pub AllAt : {A : Type 0} → (ℕ → A → Type 0) → ℕ → List A → Type 0
@@ -50,7 +50,7 @@ AreConstant globals (InIf r inner rest) = ⊥
 AreConstant globals (InIfElse r first second rest) = ⊥
 
 -- what a constant expression stands in: it sees globals alone
-abbrev pub sees : List GlobalType → Setting
+abbrev pub sees : List GlobalType → Context
 sees globals = record { types = []; functions = []; globals = globals; tables = 0; memories = 0; locals = []; result = None }
 
 -- a constant expression of a type
@@ -91,7 +91,7 @@ IsElement m k e = (e.table < length (tables_of m)) × GivesConstant (globals_of 
 abbrev pub IsFunction : Module → ℕ → Code → Type 0
 IsFunction m k c =
     (t : ℕ) × (kind : FuncType) × (slice_get m.functions k ≡ Some t) × (slice_get m.types t ≡ Some kind)
-    × ((body : Body) × Nests c.body body × IsTypedBody (setting_of m (kind.params ++ c.locals) kind.result) body)
+    × ((body : Body) × Nests c.body body × IsTypedBody (context_of m (kind.params ++ c.locals) kind.result) body)
 
 -- a data segment (section 3.4.4)
 abbrev pub IsSegment : Module → ℕ → Segment → Type 0

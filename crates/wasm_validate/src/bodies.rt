@@ -7,24 +7,24 @@ ghost use Rattle.basics.specs.Stops.{Gives};
 ghost use Rattle.wasm_validate.specs.Scanning.{scan, outset};
 
 use crate::checker::Checker;
+use crate::context::Context;
 use crate::fault::{Halt, Part, halt_in};
-use crate::setting::Setting;
 use std::alloc::Global;
 use wasm_types::Instr;
 
 /// The instructions of the function at an index, with imports counted.
 pub fn check_body(
     alloc: Global,
-    setting: &Setting,
+    context: &Context,
     index: usize,
     code: &[Instr],
 ) -> Result<(), Halt>
-    ensures { Gives (λ x. x) result (in_part Code index (scan code.now setting.now (Some (outset setting.now.result)))) }
+    ensures { Gives (λ x. x) result (in_part Code index (scan code.now context.now (Some (outset context.now.result)))) }
 {
-    let mut checker = Checker::new(alloc, setting.result)?;
+    let mut checker = Checker::new(alloc, context.result)?;
     for instr in code {
         let at = checker.told_at(instr);
-        match checker.step(alloc, setting, instr) {
+        match checker.step(alloc, context, instr) {
             Ok(false) => {}
             Ok(true) => return Ok(()),
             Err(stop) => return Err(halt_in(Part::Code, index, stop, at)),

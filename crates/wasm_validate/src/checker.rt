@@ -1,13 +1,13 @@
 //! The check of a body, instruction by instruction.
 
 ghost use Rattle.std.specs.Prelude.{◌≡◌, ◌<◌, ◌≤◌, IfOk};
-ghost use Rattle.wasm_validate.specs.Operands.{height, missing};
+ghost use Rattle.wasm_validate.specs.Operands.{stacked, missing};
 ghost use Rattle.wasm_validate.specs.Scanning.{label_of, opened, parting, closing, step, told_at, outset, Steps};
 
+use crate::context::Context;
 use crate::fault::{Stop, ValidKind};
 use crate::instructions::plain;
 use crate::operands::Operands;
-use crate::setting::Setting;
 use crate::stack::Stack;
 use std::alloc::{AllocFailed, Global};
 use std::mem;
@@ -15,7 +15,7 @@ use wasm_types::{Instr, ValueType};
 
 /// Which block is open.
 #[derive(Clone, Copy, Debug, PartialEq, Eq)]
-pub enum Sort {
+pub enum BlockKind {
     Block,
     Loop,
     /// The first part of an `if`.
@@ -27,7 +27,7 @@ pub enum Sort {
 /// A block that is open: its instruction's number, its result, and its operands.
 #[derive(Drop)]
 pub struct Open {
-    pub sort: Sort,
+    pub block_kind: BlockKind,
     pub result: Option<ValueType>,
     pub number: usize,
     pub operands: Operands,
@@ -42,21 +42,21 @@ pub struct Checker {
     pub labels: Stack<Option<ValueType>>,
 }
 
-fn label_of(sort: Sort, kind: Option<ValueType>) -> Option<ValueType>
-    ensures { result ≡ label_of sort kind }
+fn label_of(block_kind: BlockKind, kind: Option<ValueType>) -> Option<ValueType>
+    ensures { result ≡ label_of block_kind kind }
 {
-    match sort {
-        Sort::Loop => None,
+    match block_kind {
+        BlockKind::Loop => None,
         _ => kind,
     }
 }
 
 // Whether an `if` ends that has a result and no `else`.
-fn missing(sort: Sort, kind: Option<ValueType>) -> Option<ValidKind>
-    ensures { result ≡ missing sort kind }
+fn missing(block_kind: BlockKind, kind: Option<ValueType>) -> Option<ValidKind>
+    ensures { result ≡ missing block_kind kind }
 {
-    match (sort, kind) {
-        (Sort::If, Some(_)) => Some(ValidKind::TypeMismatch),
+    match (block_kind, kind) {
+        (BlockKind::If, Some(_)) => Some(ValidKind::TypeMismatch),
         _ => None,
     }
 }
@@ -72,12 +72,12 @@ impl Checker {
         let mut labels = Stack::new(alloc);
         labels.push(kind)?;
         let operands = Operands {
-            base: 0,
-            below: false,
+            height: 0,
+            unreachable: false,
             known: Stack::new(alloc),
         };
         let current = Open {
-            sort: Sort::Block,
+            block_kind: BlockKind::Block,
             result: kind,
             number: 0,
             operands,
@@ -90,25 +90,30 @@ impl Checker {
         })
     }
 
-    fn open(&mut self, alloc: Global, sort: Sort, kind: Option<ValueType>) -> Result<bool, Stop>
+    fn open(
+        &mut self,
+        alloc: Global,
+        block_kind: BlockKind,
+        kind: Option<ValueType>,
+    ) -> Result<bool, Stop>
         requires room { self.old.number < usize.MAX }
-        requires low { height self.old.current.operands ≤ 1024 }
-        ensures { Steps result self.new (Ok (Some (opened sort kind self.old self.old.current.operands))) }
+        requires low { stacked self.old.current.operands ≤ 1024 }
+        ensures { Steps result self.new (Ok (Some (opened block_kind kind self.old self.old.current.operands))) }
     {
         let operands = Operands {
-            base: self.current.operands.base + self.current.operands.known.len(),
-            below: false,
+            height: self.current.operands.height + self.current.operands.known.len(),
+            unreachable: false,
             known: Stack::new(alloc),
         };
         let inner = Open {
-            sort,
+            block_kind,
             result: kind,
             number: self.number,
             operands,
         };
         let outer = mem::replace(&mut self.current, inner);
         self.outer.push(outer)?;
-        self.labels.push(label_of(sort, kind))?;
+        self.labels.push(label_of(block_kind, kind))?;
         self.number += 1;
         Ok(false)
     }
@@ -117,12 +122,12 @@ impl Checker {
     fn part(&mut self, alloc: Global) -> Result<bool, Stop>
         ensures { Steps result self.new (parting self.old) }
     {
-        let base = self.current.operands.base;
+        let height = self.current.operands.height;
         self.current.operands.end(self.current.result)?;
-        self.current.sort = Sort::Else;
+        self.current.block_kind = BlockKind::Else;
         self.current.operands = Operands {
-            base,
-            below: false,
+            height,
+            unreachable: false,
             known: Stack::new(alloc),
         };
         Ok(false)
@@ -134,7 +139,7 @@ impl Checker {
     {
         let kind = self.current.result;
         self.current.operands.end(kind)?;
-        if let Some(fault) = missing(self.current.sort, kind) {
+        if let Some(fault) = missing(self.current.block_kind, kind) {
             return Err(Stop::Fault(fault));
         }
         match self.outer.pop() {
@@ -167,22 +172,22 @@ impl Checker {
     }
 
     /// One instruction. Whether it was the last one.
-    pub fn step(&mut self, alloc: Global, setting: &Setting, instr: &Instr) -> Result<bool, Stop>
+    pub fn step(&mut self, alloc: Global, context: &Context, instr: &Instr) -> Result<bool, Stop>
         requires room { self.old.number < usize.MAX }
-        requires low { height self.old.current.operands ≤ 1024 }
-        ensures { Steps result self.new (step instr.now setting.now self.old) }
+        requires low { stacked self.old.current.operands ≤ 1024 }
+        ensures { Steps result self.new (step instr.now context.now self.old) }
     {
         match instr {
-            Instr::Block(kind) => self.open(alloc, Sort::Block, *kind),
-            Instr::Loop(kind) => self.open(alloc, Sort::Loop, *kind),
+            Instr::Block(kind) => self.open(alloc, BlockKind::Block, *kind),
+            Instr::Loop(kind) => self.open(alloc, BlockKind::Loop, *kind),
             Instr::If(kind) => {
                 self.current.operands.take(ValueType::I32)?;
-                self.open(alloc, Sort::If, *kind)
+                self.open(alloc, BlockKind::If, *kind)
             }
             Instr::Else => self.part(alloc),
             Instr::End => self.close(),
             _ => {
-                plain(&mut self.current.operands, &self.labels, setting, instr)?;
+                plain(&mut self.current.operands, &self.labels, context, instr)?;
                 self.number += 1;
                 Ok(false)
             }

@@ -2,13 +2,14 @@
 
 ghost use Rattle.std.specs.Prelude.{◌≡◌, [], Option};
 ghost use Rattle.wasm_validate.specs.Steps.{Gives};
-ghost use Rattle.wasm_validate.specs.Parts.{one_constant, is_end, constants, same_kind, is_one, constant};
+ghost use Rattle.wasm_validate.specs.Parts.{one_constant, is_end, constants, is_one, constant};
 
 use crate::fault::{Stop, ValidKind};
 use crate::instructions::type_of;
 use crate::stack::Stack;
 use std::alloc::Global;
-use wasm_types::{GlobalType, Instr, ValueType};
+use wasm_types::limits::MOST_OPERANDS;
+use wasm_types::{GlobalType, Instr, ValueType, same_result};
 
 fn one_constant(globals: &[GlobalType], instr: &Instr) -> Result<ValueType, Stop>
     ensures { Gives (λ t. t) result (one_constant globals.now instr.now) }
@@ -52,7 +53,7 @@ fn constants(
             return Ok(seen);
         }
         let kind = one_constant(globals, instr)?;
-        if 1024 <= seen.len() {
+        if MOST_OPERANDS <= seen.len() {
             return Err(Stop::Fault(ValidKind::TooHigh));
         }
         seen.push(kind)?;
@@ -60,20 +61,10 @@ fn constants(
     Ok(seen)
 }
 
-fn same_kind(kind: ValueType, found: Option<ValueType>) -> bool
-    ensures { result ≡ same_kind kind found }
-{
-    match (kind, found) {
-        (ValueType::I32, Some(ValueType::I32)) => true,
-        (ValueType::I64, Some(ValueType::I64)) => true,
-        _ => false,
-    }
-}
-
 fn is_one(kind: ValueType, mut seen: Stack<ValueType>) -> bool
     ensures { result ≡ is_one kind seen }
 {
-    same_kind(kind, seen.pop()) && seen.is_empty()
+    same_result(Some(kind), seen.pop()) && seen.is_empty()
 }
 
 /// Whether an expression is constant and has this type.

@@ -1,15 +1,15 @@
 //! Instructions that open no block and close none.
 
 ghost use Rattle.std.specs.Prelude.{◌≡◌};
-ghost use Rattle.wasm_validate.specs.Rules.{type_of, loaded, stored, load_align, store_align, converted, conversion, label_at, same_type, has_type, all_known, all_same, table_type, above, misuse};
+ghost use Rattle.wasm_validate.specs.Rules.{type_of, loaded, stored, load_align, store_align, converted, conversion, label_at, has_type, all_known, all_same, table_type, above, misuse};
 ghost use Rattle.wasm_validate.specs.Operands.{typed, plain};
 ghost use Rattle.wasm_validate.specs.Steps.{Gives, Makes};
 
+use crate::context::Context;
 use crate::fault::{Stop, ValidKind};
 use crate::operands::Operands;
-use crate::setting::Setting;
 use crate::stack::Stack;
-use wasm_types::{Convert, Instr, LoadKind, StoreKind, Value, ValueType};
+use wasm_types::{Convert, Instr, LoadKind, StoreKind, Value, ValueType, same_result};
 
 type Labels = Stack<Option<ValueType>>;
 
@@ -94,17 +94,6 @@ fn conversion(op: Convert) -> ValueType
     }
 }
 
-fn same_type(first: Option<ValueType>, second: Option<ValueType>) -> bool
-    ensures { result ≡ same_type first second }
-{
-    match (first, second) {
-        (None, None) => true,
-        (Some(ValueType::I32), Some(ValueType::I32)) => true,
-        (Some(ValueType::I64), Some(ValueType::I64)) => true,
-        _ => false,
-    }
-}
-
 fn label_at(labels: &Labels, index: u32) -> Result<Option<ValueType>, Stop>
     ensures { Gives (λ t. t) result (label_at labels.now index) }
 {
@@ -118,7 +107,7 @@ fn has_type(kind: Option<ValueType>, label: Option<Option<ValueType>>) -> bool
     ensures { result ≡ has_type kind label }
 {
     match label {
-        Some(label) => same_type(kind, label),
+        Some(label) => same_result(kind, label),
         None => false,
     }
 }
@@ -164,10 +153,10 @@ fn table_type(labels: &Labels, indices: &[u32], other: u32) -> Result<Option<Val
 fn apply(
     operands: &mut Operands,
     labels: &Labels,
-    setting: &Setting,
+    context: &Context,
     instr: &Instr,
 ) -> Result<(), Stop>
-    ensures { Makes result operands.new (typed setting.now labels.now instr.now operands.old) }
+    ensures { Makes result operands.new (typed context.now labels.now instr.now operands.old) }
 {
     match instr {
         Instr::Unreachable => operands.branch(None),
@@ -186,52 +175,52 @@ fn apply(
             let kind = table_type(labels, indices.items(), *other)?;
             operands.branch_by_index(kind)
         }
-        Instr::Return => operands.branch(setting.result),
+        Instr::Return => operands.branch(context.result),
         Instr::Call(function) => {
-            let kind = setting.function_at(*function)?;
+            let kind = context.function_at(*function)?;
             operands.call(kind)
         }
         Instr::CallIndirect(index) => {
-            let kind = setting.type_at(*index)?;
-            let _ = setting.some_table()?;
+            let kind = context.type_at(*index)?;
+            context.some_table()?;
             operands.call_indirect(kind)
         }
         Instr::Drop => operands.take_any(),
         Instr::Select => operands.select(),
         Instr::LocalGet(local) => {
-            let kind = setting.local_at(*local)?;
+            let kind = context.local_at(*local)?;
             operands.give(kind)
         }
         Instr::LocalSet(local) => {
-            let kind = setting.local_at(*local)?;
+            let kind = context.local_at(*local)?;
             operands.take(kind)
         }
         Instr::LocalTee(local) => {
-            let kind = setting.local_at(*local)?;
+            let kind = context.local_at(*local)?;
             operands.map(kind, kind)
         }
         Instr::GlobalGet(global) => {
-            let found = setting.global_at(*global)?;
+            let found = context.global_at(*global)?;
             operands.give(found.kind)
         }
         Instr::GlobalSet(global) => {
-            let found = setting.global_at(*global)?;
+            let found = context.global_at(*global)?;
             operands.take(found.kind)
         }
         Instr::Load { kind, .. } => {
-            let _ = setting.some_memory()?;
+            context.some_memory()?;
             operands.map(ValueType::I32, loaded(*kind))
         }
         Instr::Store { kind, .. } => {
-            let _ = setting.some_memory()?;
+            context.some_memory()?;
             operands.store(stored(*kind))
         }
         Instr::MemorySize => {
-            let _ = setting.some_memory()?;
+            context.some_memory()?;
             operands.give(ValueType::I32)
         }
         Instr::MemoryGrow => {
-            let _ = setting.some_memory()?;
+            context.some_memory()?;
             operands.map(ValueType::I32, ValueType::I32)
         }
         Instr::Const(value) => operands.give(type_of(value)),
@@ -261,11 +250,11 @@ fn above(most: u32, align: u32) -> Option<ValidKind>
 }
 
 // What is wrong with an instruction, its operands aside.
-fn misuse(setting: &Setting, instr: &Instr) -> Option<ValidKind>
-    ensures { result ≡ misuse setting.now instr.now }
+fn misuse(context: &Context, instr: &Instr) -> Option<ValidKind>
+    ensures { result ≡ misuse context.now instr.now }
 {
     match instr {
-        Instr::GlobalSet(global) => match setting.globals.get(*global as usize) {
+        Instr::GlobalSet(global) => match context.globals.get(*global as usize) {
             Some(found) => {
                 if found.mutable {
                     None
@@ -285,13 +274,13 @@ fn misuse(setting: &Setting, instr: &Instr) -> Option<ValidKind>
 pub fn plain(
     operands: &mut Operands,
     labels: &Labels,
-    setting: &Setting,
+    context: &Context,
     instr: &Instr,
 ) -> Result<(), Stop>
-    ensures { Makes result operands.new (plain setting.now labels.now instr.now operands.old) }
+    ensures { Makes result operands.new (plain context.now labels.now instr.now operands.old) }
 {
-    apply(operands, labels, setting, instr)?;
-    match misuse(setting, instr) {
+    apply(operands, labels, context, instr)?;
+    match misuse(context, instr) {
         Some(kind) => Err(Stop::Fault(kind)),
         None => operands.low(),
     }

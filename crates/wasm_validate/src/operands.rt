@@ -4,19 +4,20 @@ ghost use Rattle.std.specs.Prelude.{◌≡◌, [], ◌∷◌, ◌≤◌, reverse
 ghost use Rattle.std.specs.Option.{option_to_list};
 ghost use Rattle.wasm_types.specs.declared.types.ValueType.TheVariants.{I32};
 ghost use Rattle.wasm_validate.specs.Rules.{Mono, Leaves, AnyDrop, AnySelect, params_of};
-ghost use Rattle.wasm_validate.specs.Operands.{is_type, pop, take_one, take_all, give, left, by_rule, meet, height, low, ends};
+ghost use Rattle.wasm_validate.specs.Operands.{is_type, pop, take_one, take_all, give, left, by_rule, meet, stacked, low, ends};
 ghost use Rattle.wasm_validate.specs.Steps.{Gives, Makes, MakesOf};
 
 use crate::fault::{Stop, ValidKind};
 use crate::stack::Stack;
+use wasm_types::limits::MOST_OPERANDS;
 use wasm_types::{FuncType, ValueType};
 
 /// How many operands there are below the block's own, whether the code that follows is never reached, and what is
 /// known of the block's own: of one that comes from code that is never reached, nothing.
 #[derive(Drop)]
 pub struct Operands {
-    pub base: usize,
-    pub below: bool,
+    pub height: usize,
+    pub unreachable: bool,
     pub known: Stack<Option<ValueType>>,
 }
 
@@ -52,12 +53,12 @@ impl Operands {
     // The topmost operand.
     fn pop(&mut self) -> Result<Option<ValueType>, Stop>
         ensures popped { MakesOf result self.new (pop self.old) }
-        ensures height { height self.new ≤ height self.old }
+        ensures stacked { stacked self.new ≤ stacked self.old }
     {
         match self.known.pop() {
             Some(operand) => Ok(operand),
             None => {
-                if self.below {
+                if self.unreachable {
                     Ok(None)
                 } else {
                     Err(Stop::Fault(ValidKind::TypeMismatch))
@@ -69,7 +70,7 @@ impl Operands {
     // Takes an operand of this type.
     pub fn take(&mut self, kind: ValueType) -> Result<(), Stop>
         ensures taken { Makes result self.new (take_one kind self.old) }
-        ensures height { height self.new ≤ height self.old }
+        ensures stacked { stacked self.new ≤ stacked self.old }
     {
         let operand = self.pop()?;
         if is_type(kind, operand) {
@@ -97,7 +98,7 @@ impl Operands {
     fn leave(&mut self)
         ensures { self.new ≡ left self.old }
     {
-        self.below = true;
+        self.unreachable = true;
         self.known.clear();
     }
 
@@ -210,7 +211,7 @@ impl Operands {
     pub fn low(&self) -> Result<(), Stop>
         ensures { Makes result self.now (low self.now) }
     {
-        if 1024 < self.base.saturating_add(self.known.len()) {
+        if MOST_OPERANDS < self.height.saturating_add(self.known.len()) {
             Err(Stop::Fault(ValidKind::TooHigh))
         } else {
             Ok(())

@@ -8,8 +8,8 @@ ghost use Rattle.wasm_validate.specs.Spaces.{sizes_in};
 ghost use Rattle.wasm_validate.specs.Parts.{imports_at, functions_at, globals_at, exports_at, elements_at, segments_at, import_type, within, sizes, all_present, constant, count_in, unknown, start, start_at, gives_nothing, all_below, element, segment};
 
 use crate::constants::constant;
+use crate::context::Context;
 use crate::fault::{Halt, Part, Stop, ValidKind, fault_in, halt_in};
-use crate::setting::Setting;
 use crate::spaces::size_in;
 use std::alloc::Global;
 use std::collections::BTreeSet;
@@ -124,14 +124,14 @@ pub fn check_globals(
     Ok(())
 }
 
-fn count_in(setting: &Setting, kind: ExportKind) -> usize
-    ensures { result ≡ count_in setting.now kind }
+fn count_in(context: &Context, kind: ExportKind) -> usize
+    ensures { result ≡ count_in context.now kind }
 {
     match kind {
-        ExportKind::Function => setting.functions.len(),
-        ExportKind::Table => setting.tables,
-        ExportKind::Memory => setting.memories,
-        ExportKind::Global => setting.globals.len(),
+        ExportKind::Function => context.functions.len(),
+        ExportKind::Table => context.tables,
+        ExportKind::Memory => context.memories,
+        ExportKind::Global => context.globals.len(),
     }
 }
 
@@ -148,12 +148,12 @@ fn unknown(kind: ExportKind) -> ValidKind
 
 /// What is exported, and under which names.
 #[tactic(auto, unfolding(crate::specs::Parts::exports_at))]
-pub fn check_exports(alloc: Global, setting: &Setting, exports: &[Export]) -> Result<(), Halt>
-    ensures { Gives (λ x. x) result (exports_at setting.now exports.now) }
+pub fn check_exports(alloc: Global, context: &Context, exports: &[Export]) -> Result<(), Halt>
+    ensures { Gives (λ x. x) result (exports_at context.now exports.now) }
 {
     let mut names: BTreeSet<&[u8]> = BTreeSet::new(alloc);
     for (i, export) in exports.iter().enumerate() {
-        if count_in(setting, export.kind) <= export.index as usize {
+        if count_in(context, export.kind) <= export.index as usize {
             let kind = unknown(export.kind);
             return Err(Halt::Fault(fault_in(Part::Export, i, kind, 0)));
         }
@@ -173,10 +173,10 @@ fn gives_nothing(kind: Option<ValueType>) -> bool
     }
 }
 
-fn start(setting: &Setting, index: u32) -> Result<(), Stop>
-    ensures { Gives (λ x. x) result (start setting.now index) }
+fn start(context: &Context, index: u32) -> Result<(), Stop>
+    ensures { Gives (λ x. x) result (start context.now index) }
 {
-    let kind = setting.function_at(index)?;
+    let kind = context.function_at(index)?;
     if kind.params.items().is_empty() && gives_nothing(kind.result) {
         Ok(())
     } else {
@@ -185,12 +185,12 @@ fn start(setting: &Setting, index: u32) -> Result<(), Stop>
 }
 
 /// The start function.
-pub fn check_start(setting: &Setting, function: Option<u32>) -> Result<(), Halt>
-    ensures { Gives (λ x. x) result (start_at setting.now function) }
+pub fn check_start(context: &Context, function: Option<u32>) -> Result<(), Halt>
+    ensures { Gives (λ x. x) result (start_at context.now function) }
 {
     match function {
         None => Ok(()),
-        Some(index) => match start(setting, index) {
+        Some(index) => match start(context, index) {
             Ok(()) => Ok(()),
             Err(stop) => Err(halt_in(Part::Start, 0, stop, 0)),
         },
@@ -208,14 +208,14 @@ fn all_below(count: usize, indices: &[u32]) -> bool
     true
 }
 
-fn element(alloc: Global, setting: &Setting, item: &Element) -> Result<(), Stop>
-    ensures { Gives (λ x. x) result (element setting.now item.now) }
+fn element(alloc: Global, context: &Context, item: &Element) -> Result<(), Stop>
+    ensures { Gives (λ x. x) result (element context.now item.now) }
 {
-    if setting.tables <= item.table as usize {
+    if context.tables <= item.table as usize {
         return Err(Stop::Fault(ValidKind::UnknownTable));
     }
-    constant(alloc, setting.globals, ValueType::I32, item.offset.items())?;
-    if all_below(setting.functions.len(), item.functions.items()) {
+    constant(alloc, context.globals, ValueType::I32, item.offset.items())?;
+    if all_below(context.functions.len(), item.functions.items()) {
         Ok(())
     } else {
         Err(Stop::Fault(ValidKind::UnknownFunction))
@@ -224,33 +224,33 @@ fn element(alloc: Global, setting: &Setting, item: &Element) -> Result<(), Stop>
 
 /// The element segments.
 #[tactic(auto, unfolding(crate::specs::Parts::elements_at))]
-pub fn check_elements(alloc: Global, setting: &Setting, items: &[Element]) -> Result<(), Halt>
-    ensures { Gives (λ x. x) result (elements_at setting.now items.now) }
+pub fn check_elements(alloc: Global, context: &Context, items: &[Element]) -> Result<(), Halt>
+    ensures { Gives (λ x. x) result (elements_at context.now items.now) }
 {
     for (i, item) in items.iter().enumerate() {
-        if let Err(stop) = element(alloc, setting, item) {
+        if let Err(stop) = element(alloc, context, item) {
             return Err(halt_in(Part::Element, i, stop, 0));
         }
     }
     Ok(())
 }
 
-fn segment(alloc: Global, setting: &Setting, item: &Segment) -> Result<(), Stop>
-    ensures { Gives (λ x. x) result (segment setting.now item.now) }
+fn segment(alloc: Global, context: &Context, item: &Segment) -> Result<(), Stop>
+    ensures { Gives (λ x. x) result (segment context.now item.now) }
 {
-    if setting.memories <= item.memory as usize {
+    if context.memories <= item.memory as usize {
         return Err(Stop::Fault(ValidKind::UnknownMemory));
     }
-    constant(alloc, setting.globals, ValueType::I32, item.offset.items())
+    constant(alloc, context.globals, ValueType::I32, item.offset.items())
 }
 
 /// The data segments.
 #[tactic(auto, unfolding(crate::specs::Parts::segments_at))]
-pub fn check_segments(alloc: Global, setting: &Setting, items: &[Segment]) -> Result<(), Halt>
-    ensures { Gives (λ x. x) result (segments_at setting.now items.now) }
+pub fn check_segments(alloc: Global, context: &Context, items: &[Segment]) -> Result<(), Halt>
+    ensures { Gives (λ x. x) result (segments_at context.now items.now) }
 {
     for (i, item) in items.iter().enumerate() {
-        if let Err(stop) = segment(alloc, setting, item) {
+        if let Err(stop) = segment(alloc, context, item) {
             return Err(halt_in(Part::Data, i, stop, 0));
         }
     }

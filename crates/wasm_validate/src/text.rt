@@ -1,6 +1,6 @@
 //! The texts of faults.
 
-ghost use Rattle.std.specs.Prelude.{◌≡◌, ◌++◌, IfOk, string_bytes, codes, decimal};
+ghost use Rattle.std.specs.Prelude.{◌≡◌, IfOk, string_bytes};
 ghost use Rattle.wasm_validate.specs.Text.{kind_name, part_name, fault_text};
 
 use crate::fault::{Part, ValidFault, ValidKind};
@@ -53,57 +53,22 @@ impl Part {
     }
 }
 
-fn joined(text: String, more: &str) -> Result<String, AllocError>
-    ensures { IfOk result (λ t. string_bytes t ≡ string_bytes text ++ more.now) }
-{
-    let mut text = text;
-    text.push_str(more)?;
-    Ok(text)
-}
-
-fn numbered(alloc: Global, text: String, number: u32) -> Result<String, AllocError>
-    ensures { IfOk result (λ t. string_bytes t ≡ string_bytes text ++ decimal number) }
-{
-    let digits = format!(in alloc; "{number}")?;
-    joined(text, digits.as_str())
-}
-
-fn headed(alloc: Global, kind: &str) -> Result<String, AllocError>
-    ensures { IfOk result (λ t. string_bytes t ≡ codes "module: " ++ kind.now) }
-{
-    let text = String::from_str(alloc, "module: ")?;
-    joined(text, kind)
-}
-
-fn function_text(alloc: Global, kind: &str, index: u32, at: u32) -> Result<String, AllocError>
-    ensures { IfOk result (λ t. string_bytes t ≡ codes "module: " ++ kind.now ++ codes " in function " ++ decimal index ++ codes " at " ++ decimal at) }
-{
-    let text = headed(alloc, kind)?;
-    let text = joined(text, " in function ")?;
-    let text = numbered(alloc, text, index)?;
-    let text = joined(text, " at ")?;
-    numbered(alloc, text, at)
-}
-
-fn part_text(alloc: Global, kind: &str, part: &str, index: u32) -> Result<String, AllocError>
-    ensures { IfOk result (λ t. string_bytes t ≡ codes "module: " ++ kind.now ++ codes " in " ++ part.now ++ codes " " ++ decimal index) }
-{
-    let text = headed(alloc, kind)?;
-    let text = joined(text, " in ")?;
-    let text = joined(text, part)?;
-    let text = joined(text, " ")?;
-    numbered(alloc, text, index)
-}
-
 impl ValidFault {
     /// What is told of the fault, without a line feed.
     pub fn text(self, alloc: Global) -> Result<String, AllocError>
         ensures { IfOk result (λ text. string_bytes text ≡ fault_text self) }
     {
         let kind = self.kind.name();
+        let index = self.index;
         match self.part {
-            Part::Code => function_text(alloc, kind, self.index, self.at),
-            part => part_text(alloc, kind, part.name(), self.index),
+            Part::Code => {
+                let at = self.at;
+                format!(in alloc; "module: {kind} in function {index} at {at}")
+            }
+            part => {
+                let part = part.name();
+                format!(in alloc; "module: {kind} in {part} {index}")
+            }
         }
     }
 }

@@ -7,10 +7,14 @@ use Rattle.wasm_types.specs.declared.types.ValueType.{ValueType}
 use Rattle.wasm_types.specs.declared.types.ValueType.TheVariants as types
 use Rattle.wasm_types.specs.declared.types.FuncType.{FuncType}
 use Rattle.wasm_types.specs.declared.modules.Code.{Code}
+use Rattle.wasm_types.proofs.Groups.{same_self, same_is}
 use Rattle.wasm_code.specs.Grammar.{AreMany, IsU32, IsValueType, IsExpression}
-use Rattle.wasm_reader.specs.Grammar.{Group, IsGroup, locals_of, AreLocals, IsBody, AreBodies, AreCode, IsSized, params_of}
+use Rattle.wasm_reader.specs.Grammar.{IsGroup, AreLocals, IsBody, AreBodies, AreCode, IsSized, params_of}
+use Rattle.wasm_types.specs.declared.locals.Group.{Group}
+use Rattle.wasm_types.specs.Types.{same_type}
+use Rattle.wasm_types.specs.Locals.{locals_of, one_more, groups_of}
 use Rattle.wasm_writer.specs.Numbers.{number_text}
-use Rattle.wasm_writer.specs.Spelled.{vector_text, type_text, same_type, one_more, groups_of, group_text, code_text, body_text, sized_body_text}
+use Rattle.wasm_writer.specs.Spelled.{vector_text, type_text, group_text, code_text, body_text, sized_body_text}
 use Rattle.wasm_writer.proofs.Best.{IsBest, AreBest, best_nothing, best_after, best_given, best_many}
 use Rattle.wasm_writer.proofs.BestNumbers.{u32_spells, u32_below, u32_best, number_fewer, sum_fewer}
 use Rattle.wasm_writer.proofs.BestParts.{value_type_best, sized_best, expression_best}
@@ -20,16 +24,6 @@ use Rattle.wasm_writer.proofs.BestParts.{value_type_best, sized_best, expression
 group_best : AreBest IsGroup group_text
 unfolding group_text
 group_best g = best_after (λ b r. IsU32 b g.count r) (λ b r. IsValueType b g.kind r) (number_text g.count) (type_text g.kind) (u32_best g.count) (value_type_best g.kind)
-
-same_is : (a b : ValueType) → same_type a b ≡ true → a ≡ b
-same_is types.I32 types.I32 e = refl
-same_is types.I32 types.I64 e = absurd cc
-same_is types.I64 types.I32 e = absurd cc
-same_is types.I64 types.I64 e = refl
-
-same_self : (a : ValueType) → same_type a a ≡ true
-same_self types.I32 = refl
-same_self types.I64 = refl
 
 more_locals : (kind : ValueType) (groups : List Group) → locals_of (one_more kind groups) ≡ kind ∷ locals_of groups
 more_locals kind [] = refl

@@ -1,5 +1,4 @@
 mod Leb
-mod Groups
 mod Best
 mod BestNumbers
 mod BestSigned

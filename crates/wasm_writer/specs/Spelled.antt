@@ -21,7 +21,9 @@ use Rattle.wasm_types.specs.declared.modules.Code.{Code}
 use Rattle.wasm_types.specs.declared.modules.Segment.{Segment}
 use Rattle.wasm_types.specs.declared.modules.Module.{Module}
 use Rattle.wasm_code.specs.Opcodes.{opcode_of}
-use Rattle.wasm_reader.specs.Grammar.{flag_byte, export_byte, Group}
+use Rattle.wasm_reader.specs.Grammar.{flag_byte, export_byte}
+use Rattle.wasm_types.specs.declared.locals.Group.{Group}
+use Rattle.wasm_types.specs.Locals.{groups_of}
 use Rattle.wasm_writer.specs.Numbers.{number_text, i32_text, i64_text}
 
 -- ---- vectors and names
@@ -117,20 +119,6 @@ segment_text s = number_text s.memory ++ (code_text s.offset ++ bytes_text s.byt
 -- ---- code
 
 -- one more local before these groups
-abbrev pub same_type : ValueType → ValueType → Bool
-same_type types.I32 types.I32 = true
-same_type types.I64 types.I64 = true
-same_type a b = false
-
-abbrev pub one_more : ValueType → List Group → List Group
-one_more kind [] = record { count = 1; kind = kind } ∷ []
-one_more kind (g ∷ groups) = if same_type kind g.kind then record { count = suc g.count; kind = g.kind } ∷ groups else record { count = 1; kind = kind } ∷ (g ∷ groups)
-
--- locals in the fewest groups
-unfoldable pub groups_of : List ValueType → List Group
-groups_of [] = []
-groups_of (kind ∷ locals) = one_more kind (groups_of locals)
-
 unfoldable pub group_text : Group → List ℕ
 group_text g = number_text g.count ++ (type_byte g.kind ∷ [])
 

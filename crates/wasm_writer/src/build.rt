@@ -11,8 +11,8 @@ ghost use Rattle.wasm_writer.specs.Build.{is_function, first_defined, guest_expo
 
 use std::alloc::{AllocError, Global};
 use wasm_types::{
-    Code, Export, ExportKind, FuncType, Import, ImportKind, Instr, Items, Limits, Module, Segment,
-    Value, ValueType,
+    Code, Export, ExportKind, FuncType, Import, ImportKind, Instr, Items, Limits, Locals, Module,
+    Segment, Value, ValueType,
 };
 
 /// The type of a function with these parameters, which gives one result or none.
@@ -68,7 +68,7 @@ pub fn body(alloc: Global, locals: &[ValueType], mut code: Vec<Instr>) -> Result
 {
     code.push(Instr::End)?;
     Ok(Code {
-        locals: Items::of(locals.to_vec(alloc)?),
+        locals: Locals::of(alloc, locals)?,
         body: Items::of(code),
     })
 }

@@ -2,7 +2,8 @@ use Rattle.std.proofs.Common.{◌≡◌, ◌+◌, ◌<◌, ◌∷◌, ◌++◌, 
 use Rattle.std.proofs.lemmas.Grind.{common_steps}
 use Rattle.cache_types.specs.Entries.{newest_first}
 use Rattle.cache_types.specs.Objects.{written, piece_of}
-use Rattle.cache_plain.proofs.Walks.{walks, reverse-take_more}
+use Rattle.cache_log.proofs.Walks.{reverse-take_more}
+use Rattle.cache_plain.proofs.Walks.{walks}
 use Rattle.cache_plain.proofs.PartLemmas.{part-more}
 use Rattle.cache_plain.proofs.parts.part_of.Goals as goal
 

@@ -6,6 +6,6 @@ use Rattle.wasm_validate.proofs.parts.check_exports.Given as goal
 
 abbrev pub invariant-loop-i : goal.invariant-loop-i
 invariant-loop-i l = record {
-  rest : each (placed parts.Export (export_at l.setting l.exports)) l.i (drop l.i l.exports) ≡ each (placed parts.Export (export_at l.setting l.exports)) 0 l.exports;
+  rest : each (placed parts.Export (export_at l.context l.exports)) l.i (drop l.i l.exports) ≡ each (placed parts.Export (export_at l.context l.exports)) 0 l.exports;
   seen : (name : List ℕ) → has l.names name ≡ any_named name (take l.i l.exports);
 }

@@ -1,0 +1,6 @@
+pub mod Apart
+pub mod Passes
+pub mod Guests
+pub mod Steps
+pub mod Waits
+pub mod Live

@@ -1,0 +1,9 @@
+use Rattle.std.proofs.Common.{arith, ap, sym, ◌∙◌, ◌∷◌, [], slice_index}
+use Rattle.cache_objects.specs.Standings.{standing_at, purged, changed_at}
+use Rattle.cache_objects.proofs.Changing.{changed_more, purged_twice}
+use Rattle.cache_objects.proofs.changes.purge_all.Goals as goal
+
+pub loop-i-preserved : goal.loop-i-preserved
+loop-i-preserved c = λ q.
+    c.purge.ensures q ∙ ap (changed_at (purged c.args.soft) (slice_index c.args.named.now c.loop-i.i ∷ []) q) (c.loop-i.invariant q)
+    ∙ sym (changed_more (purged c.args.soft) (purged_twice c.args.soft) c.args.named.now c.loop-i.i 0 q (standing_at c.args.objects.now q) (omega (arith, c.loop-i-test.true)))

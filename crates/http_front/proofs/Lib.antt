@@ -1,0 +1,13 @@
+pub mod Finds
+pub mod Found
+pub mod FrameLaws
+pub mod HeadBack
+pub mod HeadEnds
+pub mod HeadReads
+pub mod Kept
+pub mod Lengths
+pub mod Messages
+pub mod OwnFraming
+pub mod ReadBack
+pub mod Rises
+pub mod StatusLines

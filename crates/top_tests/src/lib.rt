@@ -1,0 +1,9 @@
+//! What is tested of the top calls, over files and a sink in memory. It stands apart, so that `edge_top` is proved once.
+#![tactic(auto)]
+
+#[cfg(test)]
+mod commands;
+#[cfg(test)]
+mod journals;
+#[cfg(test)]
+mod modules;

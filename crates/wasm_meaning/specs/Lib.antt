@@ -1,0 +1,10 @@
+pub mod Steps
+pub mod Kinds
+pub mod World
+pub mod Acts
+pub mod Frames
+pub mod Meaning
+pub mod Runs
+pub mod Instance
+pub mod Worked
+pub mod Results

@@ -1,5 +1,0 @@
-use Rattle.std.proofs.Common.{◌≡◌, ◌++◌, replicate}
-use Rattle.wasm_reader.proofs.bodies.add_locals.Given as goal
-
-abbrev pub invariant-loop : goal.invariant-loop
-invariant-loop l = l.locals.items ≡ l.initial.locals.items ++ replicate l.counter l.kind

@@ -1,0 +1,7 @@
+mod Settling
+mod Preserving
+mod Acting
+mod Rows
+mod Plain
+mod Starting
+mod Lawful
