@@ -1,4 +1,5 @@
 //! Requests as bytes, and what is read of them.
+use crate::pieces::Pieces;
 use crate::rows::{good, refused};
 use edge_outside::MemSource;
 use http_front::{FrontFault, Incoming, read_request};
@@ -95,6 +96,25 @@ fn one_request_in_every_cut(rt: HostRuntime) -> Result<(), Fail> {
     for call in 1..4u64 {
         let failed = read(alloc, POST, 1, vec![in alloc; call]?);
         assert!(rt; matches!(failed, Err(FrontFault::ReadFault)), "{call}");
+    }
+    Ok(())
+}
+
+#[test]
+fn one_request_in_two_pieces(rt: HostRuntime) -> Result<(), Fail> {
+    let alloc = rt.alloc();
+    let text = POST.as_slice();
+    for cut in 1..69usize {
+        let mut source = Pieces {
+            first: &text[..cut],
+            then: &text[cut..],
+            reads: 0,
+        };
+        match read_request(alloc, &mut source) {
+            Ok(found) => assert_eq!(rt; found.body.bytes(), b"hi".as_slice()),
+            Err(fault) => assert!(rt; false, "{fault:?} at {cut}"),
+        }
+        assert_eq!(rt; source.reads, 2, "{cut}");
     }
     Ok(())
 }

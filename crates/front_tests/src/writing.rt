@@ -25,8 +25,9 @@ fn asked(alloc: Global, text: &[u8]) -> Result<RequestHead, FrontFault> {
     Ok(read_request(alloc, &mut source)?.head)
 }
 
-fn response(alloc: Global, status: u16) -> Result<ResponseHead, FrontFault> {
-    let head = asked(alloc, FIELDS)?;
+/// A response with the headers of the request with this text.
+fn response(alloc: Global, text: &[u8], status: u16) -> Result<ResponseHead, FrontFault> {
+    let head = asked(alloc, text)?;
     let fields = head.fields().copy(alloc)?;
     if is_status(status) {
         return Ok(ResponseHead::new(status, 2, fields));
@@ -40,38 +41,31 @@ fn add(alloc: Global, all: &mut Vec<u8>, framing: Framing, piece: &[u8]) -> Resu
     all.extend_from_slice(frame.bytes())
 }
 
-/// A body in three pieces, of which one is empty.
-fn body(alloc: Global, framing: Framing) -> Result<Vec<u8>, AllocError> {
+/// A body in these pieces.
+fn body(alloc: Global, framing: Framing, pieces: &[&[u8]]) -> Result<Vec<u8>, AllocError> {
     let mut all = Vec::new(alloc);
-    add(alloc, &mut all, framing, b"hi")?;
-    add(alloc, &mut all, framing, b"")?;
-    add(alloc, &mut all, framing, b"0123456789abcdef")?;
+    for piece in pieces {
+        add(alloc, &mut all, framing, piece)?;
+    }
     let end = end_frame(alloc, framing)?;
     all.extend_from_slice(end.bytes())?;
     Ok(all)
 }
 
-/// The head of the answer to the request with this text.
-fn head(
-    alloc: Global,
-    request: &RequestHead,
-    status: u16,
-    length: Option<u64>,
-) -> Result<Octets, FrontFault> {
-    let response = response(alloc, status)?;
-    Ok(answer_head(alloc, request, &response, length)?)
-}
-
-/// The head and the body of the answer to the request with this text.
+/// The head and the body of the answer to the request with this text: the headers of the second request, and these
+/// pieces.
 fn answer(
     alloc: Global,
     text: &[u8],
     status: u16,
     length: Option<u64>,
+    fields: &[u8],
+    pieces: &[&[u8]],
 ) -> Result<(Octets, Vec<u8>), FrontFault> {
     let request = asked(alloc, text)?;
-    let head = head(alloc, &request, status, length)?;
-    let body = body(alloc, framing(&request, &head))?;
+    let response = response(alloc, fields, status)?;
+    let head = answer_head(alloc, &request, &response, length)?;
+    let body = body(alloc, framing(&request, &head), pieces)?;
     Ok((head, body))
 }
 
@@ -128,16 +122,42 @@ const ANSWERS: [(&[u8], u16, Option<u64>, &[u8], &[u8]); 7] = [
     ),
 ];
 
+/// Three pieces, of which one is empty.
+const PIECES: [&[u8]; 3] = [b"hi", b"", b"0123456789abcdef"];
+
+/// The same of one piece and no headers.
+const SHORT: [(&[u8], u16, Option<u64>, &[u8], &[u8]); 2] = [
+    (
+        GET,
+        200,
+        Some(2),
+        b"HTTP/1.1 200 OK\r\ncontent-length: 2\r\nconnection: close\r\n\r\n",
+        b"hi",
+    ),
+    (
+        GET,
+        200,
+        None,
+        b"HTTP/1.1 200 OK\r\ntransfer-encoding: chunked\r\nconnection: close\r\n\r\n",
+        b"2\r\nhi\r\n0\r\n\r\n",
+    ),
+];
+
 #[test]
 fn answers_in_their_bytes(rt: HostRuntime) -> Result<(), Fail> {
     let alloc = rt.alloc();
-    for (text, status, length, head, body) in ANSWERS {
-        match answer(alloc, text, status, length) {
-            Ok(found) => {
-                assert_eq!(rt; found.0.bytes(), head);
-                assert_eq!(rt; found.1.as_slice(), body);
+    for (rows, fields, pieces) in [
+        (ANSWERS.as_slice(), FIELDS, PIECES.as_slice()),
+        (SHORT.as_slice(), OLD, &PIECES[..1]),
+    ] {
+        for (text, status, length, head, body) in rows {
+            match answer(alloc, text, *status, *length, fields, pieces) {
+                Ok(found) => {
+                    assert_eq!(rt; found.0.bytes(), *head);
+                    assert_eq!(rt; found.1.as_slice(), *body);
+                }
+                Err(fault) => assert!(rt; false, "{fault:?} of {text:?}"),
             }
-            Err(fault) => assert!(rt; false, "{fault:?} of {text:?}"),
         }
     }
     Ok(())

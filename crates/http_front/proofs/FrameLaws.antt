@@ -1,5 +1,5 @@
 -- Frames are the body of their pieces: chunks are whole with the end, and never without it.
-use Rattle.std.proofs.Common.{◌≡◌, ℕ, ◌<◌, ◌≤◌, List, [], ◌∷◌, ◌++◌, length, refl, sym, ◌∙◌, ap, subst, arith, append_assoc, append-nil, length-append, None, Result, Ok, Err, IfOk, IsTrue, All, ◌^◌, false}
+use Rattle.std.proofs.Common.{◌≡◌, ℕ, ◌+◌, ◌<◌, ◌≤◌, List, [], ◌∷◌, ◌++◌, length, refl, sym, ◌∙◌, ap, subst, arith, append_assoc, append-nil, length-append, None, Result, Ok, Err, IfOk, IsTrue, All, ◌^◌, false}
 use Rattle.std.specs.List.{flat_map}
 use Rattle.std.specs.Fmt.{digits}
 use Rattle.std.proofs.lemmas.List.Elements.{All-nil, All-cons, All-head, All-tail, All-weaker}
@@ -8,6 +8,8 @@ use Rattle.httparse.specs.Ascii.{crlf_bytes}
 use Rattle.std.specs.Char.{is_ascii_hexdigit}
 use Rattle.httparse.specs.Grammar.{is_ows, ChunkLine, ReadsChunkLine, print_chunk_line, chunk_size}
 use Rattle.http_text.specs.Chunks.{Chunk, IsChunk, IsShortLine, IsLast, IsChunked, print_chunk, print_chunks, chunks_bytes, HasNoChunked}
+use Rattle.http_text.specs.Bodies.{IsSized}
+use Rattle.http_text.specs.Chunks.{HasNone}
 use Rattle.http_text.proofs.ChunkLaws.{chunks_off}
 use Rattle.http_text.proofs.ChunkFronts.{line_first}
 use Rattle.http_front.specs.declared.answers.Framing.{Framing}
@@ -145,3 +147,10 @@ framed_whole framing (Err fault) e = tt
 -- without it
 pub framed_cut : (pieces : List (List ℕ)) → Fit pieces → HasNoChunked (frames Chunked pieces)
 framed_cut pieces fit = cut_frames pieces (all_back pieces fit)
+
+-- fewer bytes than were told aren't a body of that length
+pub fewer_bytes : (told : ℕ) (text : List ℕ) → length text < told → HasNone (IsSized told) text
+fewer_bytes told text less front body rest is e =
+    let parts : length text ≡ length front + length rest = ap (λ (t : List ℕ). length t) e ∙ length-append front rest in
+    let whole : length front ≡ told = ap (λ (t : List ℕ). length t) is.same ∙ is.count in
+    omega (arith, less, parts, whole)

@@ -1,3 +1,4 @@
+pub mod EmptyLines
 pub mod Finds
 pub mod Found
 pub mod FrameLaws

@@ -4,7 +4,8 @@ ghost use Rattle.std.specs.List.{list_any, slice_split};
 ghost use Rattle.std.specs.Fmt.{digits};
 ghost use Rattle.edge_body.specs.Heads.{Response, is_status, are_fields};
 ghost use Rattle.http_text.specs.Lines.{is_line_feed};
-ghost use Rattle.http_text.specs.Chunks.{HasNoChunked};
+ghost use Rattle.http_text.specs.Bodies.{IsSized};
+ghost use Rattle.http_text.specs.Chunks.{HasNone, HasNoChunked};
 ghost use Rattle.http_front.specs.Answers.{answer_text};
 ghost use Rattle.http_front.specs.Laws.{Fit, frames, IsFramed, own_framing};
 ghost use Rattle.http_front.specs.Frames.{has_empty_status, is_chunked_line, has_chunked_line, framing_of, chunk_text, piece_text, end_text};
@@ -79,11 +80,13 @@ fn chunk(alloc: Global, piece: &[u8]) -> Result<Octets, AllocError>
 }
 
 /// The end of a whole body. `whole` says that with it behind them the frames of any pieces are these pieces' body, and
-/// `cut` that without it they aren't one, where they are chunks.
+/// `cut` that without it they aren't one, where they are chunks. Where a length was told `short` says it: fewer bytes
+/// aren't a body of that length.
 pub fn end_frame(alloc: Global, framing: Framing) -> Result<Octets, AllocError>
     ensures text { IfOk result (λ frame. frame ≡ end_text framing) }
     ensures whole { IfOk result (λ frame. (pieces : List (List ℕ)) → Fit pieces → IsFramed framing pieces (frames framing pieces ++ frame)) }
     ensures cut { (pieces : List (List ℕ)) → Fit pieces → HasNoChunked (frames Framing.Chunked pieces) }
+    ensures short { (told : ℕ) (text : List ℕ) → length text < told → HasNone (IsSized told) text }
 {
     end_of(alloc, framing)
 }

@@ -1,8 +1,10 @@
 //! The head of a request, read of a source. It is looked at where a line ended, so that a head that comes byte by byte
-//! isn't looked at for each byte.
+//! isn't looked at for each byte, and not while there are empty lines alone.
 ghost use Rattle.std.specs.Prelude.{◌≡◌, ◌<◌, ◌≤◌, ◌+◌, [], ℕ, List, length, take, drop, map, IfOk, IfSome, IfErr, IsErrOf, Ok, None};
+ghost use Rattle.std.specs.List.{list_all};
 ghost use Rattle.edge_outside.specs.Reads.{OneRead};
 ghost use Rattle.httparse.specs.Grammar.{RequestHead, ReadsRequest, HasNoRequest, NeverHasRequest, print_request};
+ghost use Rattle.httparse.specs.Pieces.{is_newline};
 ghost use Rattle.httparse.specs.Spans.{RequestOverflows, RequestExceeds};
 ghost use Rattle.http_text.specs.Fields.{most_headers};
 ghost use Rattle.http_front.specs.Faults.{IsOfHead, EndsAs, StopsAs};
@@ -51,10 +53,38 @@ fn whole_head(alloc: Global, bytes: &[u8]) -> Result<Option<(Head, usize)>, Fron
     }
 }
 
-/// The same where the first `seen` bytes have no head: only a line's end behind them can have made one.
-fn next_head(alloc: Global, bytes: &[u8], seen: usize) -> Result<Option<(Head, usize)>, FrontFault>
+fn is_newline(byte: u8) -> bool
+    ensures { result ≡ is_newline byte }
+{
+    byte == b'\r' || byte == b'\n'
+}
+
+fn are_newlines(bytes: &[u8]) -> bool
+    ensures { result ≡ list_all is_newline bytes.now }
+{
+    bytes.iter().all(|byte| is_newline(*byte))
+}
+
+/// There are empty lines alone, where it is known of the first `seen` bytes.
+fn are_empty_lines(bytes: &[u8], seen: usize, before: bool) -> bool
+    requires before { before ≡ list_all is_newline (take seen bytes.now) }
+    requires within { seen ≤ length bytes.now }
+    ensures { result ≡ list_all is_newline bytes.now }
+{
+    before && are_newlines(&bytes[seen..])
+}
+
+/// The same where the first `seen` bytes have no head: only a line's end behind them can have made one, and not while
+/// there are empty lines alone.
+fn next_head(
+    alloc: Global,
+    bytes: &[u8],
+    seen: usize,
+    empty: bool,
+) -> Result<Option<(Head, usize)>, FrontFault>
     requires seen { HasNoRequest (take seen bytes.now) }
     requires within { seen ≤ length bytes.now }
+    requires empty { empty ≡ list_all is_newline bytes.now }
     ensures whole { IfOk result (λ found. IfSome found (λ f. HasHead bytes.now f.0 f.1)) }
     ensures within { IfOk result (λ found. IfSome found (λ f. f.1 ≤ length bytes.now)) }
     ensures kinds { IfErr result IsOfHead }
@@ -63,6 +93,9 @@ fn next_head(alloc: Global, bytes: &[u8], seen: usize) -> Result<Option<(Head, u
     ensures many { IsErrOf result FrontFault.HeadTooLarge → RequestOverflows most_headers bytes.now }
     ensures headers { IsErrOf result FrontFault.HeadTooLarge → RequestExceeds most_headers bytes.now }
 {
+    if empty {
+        return Ok(None);
+    }
     if !has_line_feed(bytes, seen) {
         return Ok(None);
     }
@@ -106,8 +139,10 @@ pub fn read_head<S: Source>(
     ensures few { length ahead.new ≤ most_head }
 {
     let mut seen = 0;
+    let mut empty = true;
     loop {
-        match next_head(alloc, ahead.bytes(), seen) {
+        empty = are_empty_lines(ahead.bytes(), seen, empty);
+        match next_head(alloc, ahead.bytes(), seen, empty) {
             Ok(Some((head, len))) => {
                 ahead.pass(len);
                 return Ok(head);

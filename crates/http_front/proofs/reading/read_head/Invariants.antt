@@ -1,6 +1,8 @@
-use Rattle.std.proofs.Common.{◌≤◌, ◌-◌, [], length, take}
+use Rattle.std.proofs.Common.{◌≡◌, ◌≤◌, ◌-◌, [], length, take}
+use Rattle.std.specs.List.{list_all}
 use Rattle.edge_outside.specs.Reads.{Reads, OneRead}
 use Rattle.httparse.specs.Grammar.{HasNoRequest}
+use Rattle.httparse.specs.Pieces.{is_newline}
 use Rattle.http_front.specs.Heads.{most_head}
 use Rattle.http_front.proofs.reading.read_head.Given as goal
 
@@ -10,6 +12,7 @@ invariant-loop-head g l = record {
   few : length l.ahead ≤ most_head;
   within : l.seen ≤ length l.ahead;
   seen : HasNoRequest (take l.seen l.ahead);
+  empty : l.empty ≡ list_all is_newline (take l.seen l.ahead);
 }
 
 abbrev pub decreases-loop-head : goal.decreases-loop-head
