@@ -1,5 +1,5 @@
 -- Readings of a clock, one after the other.
-use Rattle.std.proofs.Common.{◌≡◌, ℕ, List, [], ◌∷◌, ◌++◌, map, Option, subst, sym}
+use Rattle.std.proofs.Common.{ℕ, List, [], ◌∷◌, ◌++◌, map, Option, subst, sym}
 use Rattle.std.proofs.lemmas.List.{map-append}
 use Rattle.edge_outside.specs.Made.{Made, made_none, made_one, made_then}
 use Rattle.edge_outside.specs.Clock.{ClockContent, IsReading, AreReadings}

@@ -3,7 +3,9 @@ pub mod Faults
 pub mod Files
 pub mod InOrder
 pub mod Link
+pub mod Listener
 pub mod Made
+pub mod Peer
 pub mod Plan
 pub mod Reads
 pub mod Sink

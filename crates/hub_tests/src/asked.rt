@@ -1,22 +1,38 @@
 //! A caller that knows of its guests what its own pass says, and meets with that what every call asks.
-ghost use Rattle.std.specs.Prelude.{◌≡◌, ◌≤◌, ◌∷◌, [], IfOk};
+ghost use Rattle.std.specs.Prelude.{◌≡◌, ◌≤◌, ◌∷◌, [], IfOk, IfSome};
 ghost use Rattle.turnstile.specs.Rule.{all_parts};
 ghost use Rattle.turnstile.specs.Pass.{IsOf, IsSamePass};
 ghost use Rattle.cache_hub.specs.Calls.{HasGuest};
-ghost use Rattle.hub_tests.specs.Asked.{MayMake};
+ghost use Rattle.hub_tests.specs.Asked.{MayMake, number_of};
 
 use cache_hub::{CallFault, Hub, HubPass, UntilFault};
 use cache_plain::PlainCache;
 use cache_types::*;
-use edge_outside::{FreeGate, MemClock};
+use edge_outside::{Gate, MemClock};
 use std::alloc::Global;
 use std::sync::Wait;
+use std::thread;
+use std::time::{Clock, Duration};
 
 /// Why a test didn't come to its end.
 #[derive(Clone, Copy, Debug)]
 pub enum Stopped {
     OutOfMemory,
     Unanswered,
+}
+
+/// Sleeps between two tries, so that who waits for another guest's insertion doesn't keep it from the turn.
+#[derive(Drop)]
+pub struct Sleeps<'a, K> {
+    pub clock: &'a K,
+}
+
+impl<'a, K: Clock> Gate for Sleeps<'a, K> {
+    fn before(&self, _index: u64, _call: u64) {}
+
+    fn idle(&self) {
+        thread::sleep(self.clock, Duration::from_micros(200));
+    }
 }
 
 /// A hub over an empty cache with room for so many entries, and the pass with all its parts.
@@ -30,79 +46,99 @@ pub fn opened(alloc: Global, most: u64) -> Result<(Hub<PlainCache>, HubPass<Plai
     }
 }
 
-/// One try of a Begin.
-pub fn begin<S: OneCache>(
-    hub: &Hub<S>,
-    pass: HubPass<S>,
-    reading: u64,
-) -> Result<(HubPass<S>, u64), Stopped>
-    requires { IsOf hub.now pass }
-    ensures same { IfOk result (λ made. IsSamePass pass made.0) }
-    ensures guest { IfOk result (λ made. HasGuest made.0 made.1) }
-{
-    let (pass, answer) = hub.try_call(pass, 0, reading, &CacheCall::Begin);
-    match answer {
-        Ok(told) => Ok((pass, told.number)),
-        Err(_) => Err(Stopped::Unanswered),
-    }
-}
-
-/// A Begin that is tried until the turn is free.
-pub fn begin_soon<S: OneCache, W: Wait>(
-    rt: &W,
-    hub: &Hub<S>,
-    pass: HubPass<S>,
-    clock: &mut MemClock,
-) -> Result<(HubPass<S>, u64), Stopped>
-    requires { IsOf hub.now pass }
-    ensures same { IfOk result (λ made. IsSamePass pass made.0) }
-    ensures guest { IfOk result (λ made. HasGuest made.0 made.1) }
-{
-    let call = CacheCall::Begin;
-    let (pass, answer) = hub.call_until(rt, pass, 0, clock, u128::MAX, &FreeGate, &call);
-    match answer {
-        Ok(told) => Ok((pass, told.number)),
-        Err(_) => Err(Stopped::Unanswered),
-    }
-}
-
-/// What a test looks at of an answer.
+/// What a test looks at of a reply, or of why there is none.
 #[derive(Clone, Copy, Debug, PartialEq, Eq)]
-pub enum Said {
-    Found { number: u64 },
-    MustInsert { number: u64 },
-    Made { number: u64 },
-    Done { number: u64 },
+pub enum What {
+    Nothing,
+    Found,
+    MustInsert,
+    Made,
+    Done,
     NotYet,
-    Timeout { reading: u64 },
+    Timeout,
     Other,
 }
 
-fn what_was_said(told: Stepped) -> Said {
-    let number = told.number;
-    match told.reply {
-        Reply::Got { hit: Some(_), .. } => Said::Found { number },
-        Reply::Got { bits: 8, .. } => Said::MustInsert { number },
-        Reply::Made => Said::Made { number },
-        Reply::Done => Said::Done { number },
-        Reply::NotYet => Said::NotYet,
-        _ => Said::Other,
+/// The same, with the number of the entry, or with the reading of a timeout.
+#[derive(Clone, Copy, Debug, PartialEq, Eq)]
+pub struct Said {
+    pub what: What,
+    pub number: u64,
+}
+
+pub fn say(what: What, number: u64) -> Said {
+    Said { what, number }
+}
+
+fn looked_up(bits: u8, hit: bool) -> What {
+    if hit {
+        What::Found
+    } else if bits == 8 {
+        What::MustInsert
+    } else {
+        What::Nothing
+    }
+}
+
+fn what_is(reply: &Reply) -> What {
+    match reply {
+        Reply::Got { bits, hit } => looked_up(*bits, hit.is_some()),
+        Reply::Made => What::Made,
+        Reply::Done => What::Done,
+        Reply::NotYet => What::NotYet,
+        _ => What::Other,
     }
 }
 
 fn said_in(answer: Result<Stepped, CallFault>) -> Said {
     match answer {
-        Ok(told) => what_was_said(told),
-        Err(_) => Said::Other,
+        Ok(told) => say(what_is(&told.reply), told.number),
+        Err(_) => say(What::Other, 0),
     }
 }
 
 fn said_until(answer: Result<Stepped, UntilFault>) -> Said {
     match answer {
-        Ok(told) => what_was_said(told),
-        Err(UntilFault::Timeout { reading }) => Said::Timeout { reading },
-        Err(_) => Said::Other,
+        Ok(told) => say(what_is(&told.reply), told.number),
+        Err(UntilFault::Timeout { reading }) => say(What::Timeout, reading),
+        Err(_) => say(What::Other, 0),
     }
+}
+
+fn number_in<F: Drop>(answer: Result<Stepped, F>) -> Option<u64>
+    ensures { result ≡ number_of answer }
+{
+    match answer {
+        Ok(told) => Some(told.number),
+        Err(_) => None,
+    }
+}
+
+/// One try of a Begin, and the guest that it made.
+pub fn begin<S: OneCache>(hub: &Hub<S>, pass: HubPass<S>, reading: u64) -> (HubPass<S>, Option<u64>)
+    requires { IsOf hub.now pass }
+    ensures same { IsSamePass pass result.0 }
+    ensures guest { IfSome result.1 (HasGuest result.0) }
+{
+    let (pass, answer) = hub.try_call(pass, 0, reading, &CacheCall::Begin);
+    (pass, number_in(answer))
+}
+
+/// A Begin that is tried until the turn is free.
+pub fn begin_soon<S: OneCache, W: Wait, G: Gate>(
+    rt: &W,
+    hub: &Hub<S>,
+    pass: HubPass<S>,
+    clock: &mut MemClock,
+    gate: &G,
+) -> (HubPass<S>, Option<u64>)
+    requires { IsOf hub.now pass }
+    ensures same { IsSamePass pass result.0 }
+    ensures guest { IfSome result.1 (HasGuest result.0) }
+{
+    let call = CacheCall::Begin;
+    let (pass, answer) = hub.call_until(rt, pass, 0, clock, u128::MAX, gate, &call);
+    (pass, number_in(answer))
 }
 
 /// One try of a guest's call.
@@ -110,7 +146,6 @@ pub fn ask<S: OneCache>(
     hub: &Hub<S>,
     pass: HubPass<S>,
     guest: u64,
-    reading: u64,
     call: &CacheCall,
 ) -> (HubPass<S>, Said)
     requires own { IsOf hub.now pass }
@@ -119,18 +154,19 @@ pub fn ask<S: OneCache>(
     ensures same { IsSamePass pass result.0 }
     ensures guest { HasGuest result.0 guest }
 {
-    let (pass, answer) = hub.try_call(pass, guest, reading, call);
+    let (pass, answer) = hub.try_call(pass, guest, 0, call);
     (pass, said_in(answer))
 }
 
 /// A guest's call with a deadline, and the last reading of the clock.
-pub fn ask_until<S: OneCache, W: Wait>(
+pub fn ask_until<S: OneCache, W: Wait, G: Gate>(
     rt: &W,
     hub: &Hub<S>,
     pass: HubPass<S>,
     guest: u64,
     clock: &mut MemClock,
     deadline: u128,
+    gate: &G,
     call: &CacheCall,
 ) -> (HubPass<S>, Said, u64)
     requires own { IsOf hub.now pass }
@@ -139,7 +175,7 @@ pub fn ask_until<S: OneCache, W: Wait>(
     ensures same { IsSamePass pass result.0 }
     ensures guest { HasGuest result.0 guest }
 {
-    let (pass, answer, last) = hub.call_timed(rt, pass, guest, clock, deadline, &FreeGate, call);
+    let (pass, answer, last) = hub.call_timed(rt, pass, guest, clock, deadline, gate, call);
     (pass, said_until(answer), last)
 }
 
@@ -150,6 +186,15 @@ fn octets(alloc: Global, byte: u8) -> Result<Octets, Stopped>
         Ok(octets) => Ok(octets),
         Err(_) => Err(Stopped::OutOfMemory),
     }
+}
+
+pub fn lookup(alloc: Global, key: u8) -> Result<CacheCall, Stopped>
+    ensures { IfOk result MayMake }
+{
+    Ok(CacheCall::Lookup {
+        key: octets(alloc, key)?,
+        headers: Items::of(Vec::new(alloc)),
+    })
 }
 
 pub fn tx_lookup(alloc: Global, key: u8) -> Result<CacheCall, Stopped>
