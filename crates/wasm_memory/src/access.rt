@@ -1,13 +1,14 @@
 //! Numbers in bytes, the lowest byte first.
 
-ghost use Rattle.std.specs.Prelude.{◌≡◌, ◌+◌, ◌≤◌, length, IsTrue};
+ghost use Rattle.std.specs.Prelude.{◌≡◌, ◌+◌, ◌*◌, ◌^◌, ◌≤◌, ◌<◌, length, IsTrue};
 ghost use Rattle.wasm_memory.specs.Bytes.{bytes_at, number_of, bytes_of, set_all, is_access};
 
 /// The number in 1, 2, 4 or 8 bytes.
 pub fn read(bytes: &[u8], at: usize, size: u32) -> u64
     requires inside { at + size ≤ length bytes.now }
     requires size { IsTrue (is_access size) }
-    ensures { result ≡ number_of (bytes_at bytes.now at size) }
+    ensures number { result ≡ number_of (bytes_at bytes.now at size) }
+    ensures bound { result < 2 ^ (8 * size) }
 {
     match size {
         1 => u64::from(bytes[at]),
@@ -19,7 +20,8 @@ pub fn read(bytes: &[u8], at: usize, size: u32) -> u64
 
 fn read2(bytes: &[u8], at: usize) -> u64
     requires { at + 2 ≤ length bytes.now }
-    ensures { result ≡ number_of (bytes_at bytes.now at 2) }
+    ensures number { result ≡ number_of (bytes_at bytes.now at 2) }
+    ensures bound { result < 2 ^ 16 }
 {
     let b0 = u64::from(bytes[at]);
     let b1 = u64::from(bytes[at + 1]);
@@ -28,7 +30,8 @@ fn read2(bytes: &[u8], at: usize) -> u64
 
 fn read4(bytes: &[u8], at: usize) -> u64
     requires { at + 4 ≤ length bytes.now }
-    ensures { result ≡ number_of (bytes_at bytes.now at 4) }
+    ensures number { result ≡ number_of (bytes_at bytes.now at 4) }
+    ensures bound { result < 2 ^ 32 }
 {
     let b0 = u64::from(bytes[at]);
     let b1 = u64::from(bytes[at + 1]);

@@ -1,6 +1,6 @@
 //! A memory that grows.
 
-ghost use Rattle.std.specs.Prelude.{◌≡◌, ◌+◌, ◌*◌, ◌≤◌, ◌<◌, length, IsTrue, IfOk, OnOk, OnErr, MatchOption};
+ghost use Rattle.std.specs.Prelude.{◌≡◌, ◌+◌, ◌*◌, ◌^◌, ◌≤◌, ◌<◌, length, IsTrue, IfOk, OnOk, OnErr, MatchOption};
 ghost use Rattle.std.specs.Borrow.{sem};
 ghost use Rattle.wasm_memory.specs.Bytes.{bytes_at, number_of, bytes_of, written, is_access, is_inside};
 ghost use Rattle.wasm_memory.specs.Linear.{blank, pages_of, grown, grown_from, with_bytes};
@@ -62,6 +62,7 @@ impl Memory {
     pub fn load(&self, place: u64, size: u32) -> Result<u64, OutOfBounds>
         requires { IsTrue (is_access size) }
         ensures inside { IfOk result (λ n. (place + size ≤ length self.now.bytes) × (n ≡ number_of (bytes_at self.now.bytes place size))) }
+        ensures bound { IfOk result (λ n. n < 2 ^ (8 * size)) }
         ensures outside { OnErr result (length self.now.bytes < place + size) }
     {
         if !self.is_inside(place, u64::from(size)) {

@@ -8,8 +8,8 @@ use Rattle.wasm_validate.specs.Valid.{IsValid}
 use Rattle.wasm_meaning.specs.Frames.{Program, Function, State}
 use Rattle.wasm_meaning.specs.Runs.{runs, first}
 use Rattle.wasm_meaning.specs.Instance.{AllFunctions, IsProgram, Instance, instance_of}
-use Rattle.wasm_sound.specs.Typed.{IsStuck, BodyTyped, FunctionTyped, ProgramTyped, StateTyped, StandsAt, within}
-use Rattle.wasm_sound.proofs.Preserving.{never_stuck, stands_at}
+use Rattle.wasm_sound.specs.Typed.{IsStuck, BodyTyped, FunctionTyped, ProgramTyped, WorldTyped, StateTyped, StandsAt, within}
+use Rattle.wasm_sound.proofs.Preserving.{never_stuck, stands_at, world_kept}
 use Rattle.wasm_sound.proofs.Plain.{plain_safe}
 use Rattle.wasm_sound.proofs.Starting.{starts_typed, first_typed}
 
@@ -33,6 +33,9 @@ unstuck c p s typed k n stuck = never_stuck c p (plain_safe c p typed) n s k stu
 
 pub goes_on : (c : Context) (p : Program) (s : State) → ProgramTyped c p → StateTyped c s → (n : ℕ) → StandsAt c (runs n p s).ending (runs n p s).state
 goes_on c p s typed k n = stands_at c p typed (plain_safe c p typed) n s k
+
+pub keeps_world : (c : Context) (p : Program) (s : State) → ProgramTyped c p → StateTyped c s → (n : ℕ) → WorldTyped c (runs n p s).state.world
+keeps_world c p s typed k n = world_kept c p (plain_safe c p typed) n s k
 
 pub valid_unstuck : (m : Module) (i : Instance) (p : Program) → IsValid m → AllFunctions m.imports → instance_of m ≡ Ok i → IsProgram m i p
     → (x : ℕ) (t : FuncType) (f : Function) (body : Body) → function_at (within m) x ≡ Ok t → t.params ≡ [] → slice_get p.functions x ≡ Some f → f.body ≡ Some body → (n : ℕ) → IsStuck (runs n p (first f body i.world)).ending → ⊥

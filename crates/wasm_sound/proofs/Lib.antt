@@ -4,4 +4,4 @@ mod Acting
 mod Rows
 mod Plain
 mod Starting
-mod Lawful
+pub mod Lawful

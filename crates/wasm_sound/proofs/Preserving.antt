@@ -17,7 +17,7 @@ use Rattle.wasm_meaning.specs.Frames.{Program, Function, Frame, Label, State}
 use Rattle.wasm_meaning.specs.Meaning.{kept, to_label, to_first, returned, entered, tested as test, step, in_frame}
 use Rattle.wasm_meaning.specs.Meaning as meaning
 use Rattle.wasm_meaning.specs.Runs.{runs, fed, gone, next, is_done, dry, arguments, taken, resumed, params_of}
-use Rattle.wasm_sound.specs.Typed.{IsStuck, TypedAs, branch_type, AgainTyped, Outer, inside, FrameTyped, StateTyped, FunctionTyped, ProgramTyped, Fits, StandsAt}
+use Rattle.wasm_sound.specs.Typed.{IsStuck, TypedAs, branch_type, AgainTyped, Outer, inside, FrameTyped, WorldTyped, StateTyped, FunctionTyped, ProgramTyped, Fits, StandsAt}
 use Rattle.wasm_sound.proofs.Settling.{retyped, next_typed}
 
 abbrev pub FrameSafe : Context → Types → Option ValueType → Result Frame Off → Type 0
@@ -202,3 +202,36 @@ pub stands_at : (c : Context) (program : Program) → ProgramTyped c program →
 stands_at c program p rows zero s k = stands_dry c (is_done (next s).frame.body) (next s)
 stands_at c program p rows (suc n) s k =
     stands_fed c program p rows n (next s) (next_typed c s k) (is_done (next s).frame.body) refl (λ now typed. stands_at c program p rows n now typed)
+
+-- ---- the world in which a run ends
+
+fitting : (r : Option ValueType) → (value : Option Value) × Fits r value
+fitting None = (None, tt)
+fitting (Some types.I32) = (Some (I32 0), refl)
+fitting (Some types.I64) = (Some (I64 0), refl)
+
+world_of : (c : Context) (value : Option Value) (s : State) → StateTyped c (resumed value s) → WorldTyped c s.world
+world_of c None s k = k.world
+world_of c (Some v) s k = k.world
+
+world_behind : (c : Context) (program : Program) (n : ℕ) (s : State) → StateTyped c s → (r : Result (Option ℕ × State) Off) → StepSafe c r
+    → ((now : State) → StateTyped c now → WorldTyped c (runs n program now).state.world) → WorldTyped c (gone program (runs n program) n s r).state.world
+world_behind c program n s k (Ok (None, now)) h later = later now h
+world_behind c program n s k (Ok (Some x, now)) (t, known, typed, leads) later =
+    let any = fitting t.result in world_of c any.0 (taken (length t.params) now) (leads any.0 any.1)
+world_behind c program n s k (Err f) h later = k.world
+
+world_fed : (c : Context) (program : Program) → PlainSafe c program → (n : ℕ) (s : State) (k : StateTyped c s) (b : Bool) → is_done s.frame.body ≡ b
+    → ((now : State) → StateTyped c now → WorldTyped c (runs n program now).state.world) → WorldTyped c (fed program (runs n program) n b s).state.world
+world_fed c program rows n s k true e later = k.world
+world_fed c program rows n s k false e later = world_behind c program n s k (step program s.frame.body s.frame s) (step_safe c program rows s k s.frame.body e k.frame.body_typed) later
+
+world_dry : (c : Context) (b : Bool) (s : State) → StateTyped c s → WorldTyped c (dry b s).state.world
+world_dry c true s k = k.world
+world_dry c false s k = k.world
+
+-- globals and memory stay of their types
+pub world_kept : (c : Context) (program : Program) → PlainSafe c program → (n : ℕ) (s : State) → StateTyped c s → WorldTyped c (runs n program s).state.world
+world_kept c program rows zero s k = world_dry c (is_done (next s).frame.body) (next s) (next_typed c s k)
+world_kept c program rows (suc n) s k =
+    world_fed c program rows n (next s) (next_typed c s k) (is_done (next s).frame.body) refl (λ now typed. world_kept c program rows n now typed)

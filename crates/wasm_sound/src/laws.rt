@@ -11,7 +11,7 @@ ghost use Rattle.wasm_meaning.specs.Frames.{Program, Function, State};
 ghost use Rattle.wasm_meaning.specs.Runs.{runs, first};
 ghost use Rattle.wasm_meaning.specs.Instance.{AllFunctions, IsProgram, Instance, instance_of};
 ghost use Rattle.wasm_sound.specs.Small.{small, small_instance, small_program};
-ghost use Rattle.wasm_sound.specs.Typed.{IsStuck, ProgramTyped, StateTyped, StandsAt, within};
+ghost use Rattle.wasm_sound.specs.Typed.{IsStuck, ProgramTyped, WorldTyped, StateTyped, StandsAt, within};
 
 /// A valid module has an instance, or one of its segments is out of bounds; its program is typed, and so is the state in which
 /// one of its functions begins that takes nothing.
@@ -22,10 +22,12 @@ pub fn valid_modules_start_typed()
         → (x : ℕ) (t : FuncType) (f : Function) (body : Body) → function_at (within m) x ≡ Ok t → t.params ≡ [] → slice_get p.functions x ≡ Some f → f.body ≡ Some body → StateTyped (within m) (first f body i.world) }
 {}
 
-/// Typed code is never stuck, whatever the fuel. Where it calls an import, any answer of its type leads to typed code again.
+/// Typed code is never stuck, whatever the fuel, and globals and memory stay of their types. Where it calls an import, any answer
+/// of its type leads to typed code again.
 pub fn typed_code_goes_on()
     ensures unstuck { (c : Context) (p : Program) (s : State) → ProgramTyped c p → StateTyped c s → (n : ℕ) → IsStuck (runs n p s).ending → ⊥ }
     ensures stands { (c : Context) (p : Program) (s : State) → ProgramTyped c p → StateTyped c s → (n : ℕ) → StandsAt c (runs n p s).ending (runs n p s).state }
+    ensures world { (c : Context) (p : Program) (s : State) → ProgramTyped c p → StateTyped c s → (n : ℕ) → WorldTyped c (runs n p s).state.world }
 {}
 
 /// Both together, up to the first call of an import.

@@ -1,0 +1,6 @@
+(module (func (export "f") (result i32) (local i32 i32)
+ (loop
+  local.get 1 local.get 0 i32.add local.set 1
+  local.get 0 i32.const 1 i32.add local.tee 0
+  i32.const 50000000 i32.lt_u br_if 0)
+ local.get 1))

@@ -1,0 +1,5 @@
+pub mod Callees
+pub mod Sharing
+pub mod Programs
+pub mod Machines
+pub mod Imports

@@ -1,0 +1,17 @@
+pub mod Acting
+pub mod Places
+pub mod Agreement
+pub mod Leaving
+pub mod Endings
+pub mod Returning
+pub mod Calling
+pub mod Passing
+pub mod Branching
+pub mod Testing
+pub mod Localing
+pub mod Parting
+pub mod Going
+pub mod Following
+pub mod Suspending
+pub mod Simulation
+pub mod Starting
