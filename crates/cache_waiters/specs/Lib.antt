@@ -1,0 +1,3 @@
+pub mod Holding
+pub mod Stands
+pub mod Endings
