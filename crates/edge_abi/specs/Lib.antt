@@ -1,0 +1,10 @@
+pub mod Memory
+pub mod Statuses
+pub mod Tables
+pub mod Lends
+pub mod Refusals
+pub mod Buffers
+pub mod Faults
+pub mod Told
+pub mod Goes
+pub mod Quiet
