@@ -1,0 +1,4 @@
+pub mod Plays
+pub mod Tickets
+pub mod Runs
+pub mod May
