@@ -1,8 +1,11 @@
 #!/usr/bin/env bash
-# Builds the guests of this folder and checks them: hello.c is accepted, float.c is told as float-used, and the module
-# that is checked in is accepted too. It stands outside the gate, and is skipped where clang or wasm-ld is missing.
+# Builds the guests of this folder and checks them: those in C give the modules that are kept beside them, or others that
+# `edge check` says the same of, where another compiler built them; float.c is told as float-used; a module that imports
+# every call of edge.h is accepted. hello.rs is built where rustc has the target. It stands outside the gate, and is
+# skipped where clang or wasm-ld is missing. EDGE names another program than the launcher.
 set -eu
 cd "$(dirname "$0")"
+edge=$(readlink -f -- "${EDGE:-../../edge}")
 for tool in clang wasm-ld; do
     if ! command -v "$tool" >/dev/null; then
         echo "skipped: no $tool"
@@ -11,17 +14,39 @@ for tool in clang wasm-ld; do
 done
 work=$(mktemp -d)
 trap 'rm -rf "$work"' EXIT
-line="ok functions 1 imports 5 pages 2"
 
-./build.sh hello.c "$work/hello.wasm"
-told=$(../../edge check "$work/hello.wasm")
-[ "$told" = "$line" ] || { echo "hello.c: $told"; exit 1; }
+for source in */*.c; do
+    ./build.sh "$source" "$work/guest.wasm"
+    told=$("$edge" check "$work/guest.wasm")
+    kept=$("$edge" check "${source%.c}.wasm")
+    [ "$told" = "$kept" ] || { echo "$source: $told, and what is kept: $kept"; exit 1; }
+    cmp -s "$work/guest.wasm" "${source%.c}.wasm" || echo "$source: this compiler's module differs from the kept one"
+done
 
-told=$(../../edge check hello.wasm)
-[ "$told" = "$line" ] || { echo "hello.wasm: $told"; exit 1; }
+# Every call of the header.
+{
+    printf '#include "edge.h"\nvoid (*volatile call)(void);\nEDGE_START void start(void) {\n'
+    tr -d '\n' <edge.h | grep -o 'EDGE_CALL("[^;]*;' | sed 's/.*[ )]\([a-z0-9_]*\)([^()]*);$/    call = (void (*)(void))\1;/'
+    printf '}\n'
+} >"$work/all.c"
+./build.sh "$work/all.c" "$work/all.wasm"
+told=$("$edge" check "$work/all.wasm")
+calls=$(grep -c 'call = ' "$work/all.c")
+[ "$told" = "ok functions 1 imports $calls pages 2" ] || { echo "edge.h, $calls calls: $told"; exit 1; }
 
 ./build.sh float.c "$work/float.wasm"
 status=0
-told=$(../../edge check "$work/float.wasm" 2>&1) || status=$?
+told=$("$edge" check "$work/float.wasm" 2>&1) || status=$?
 [ "$status" = 4 ] && [ "${told#module: float-used at }" != "$told" ] || { echo "float.c: $status $told"; exit 1; }
-echo "guests: ok"
+
+status=0
+./build.sh hello/hello.rs "$work/rust.wasm" || status=$?
+case $status in
+0)
+    told=$("$edge" check "$work/rust.wasm")
+    [ "${told#ok functions }" != "$told" ] || { echo "hello.rs: $told"; exit 1; }
+    echo "guests: ok, $calls calls, C and Rust"
+    ;;
+3) echo "guests: ok, $calls calls, C; hello.rs wasn't built" ;;
+*) exit 1 ;;
+esac
