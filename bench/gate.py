@@ -1,8 +1,8 @@
 #!/usr/bin/env python3
-"""What the gate costs: runs `rt ci` at the top of the repository, and tells for each crate the processor seconds of its
+"""What the gate costs: runs `rt ci --anew` at the top of the repository, and tells for each crate the processor seconds of its
 proofs, its tests and its must-fail edits.
 
-    bench/gate.py run FILE.json                 runs `rt ci`, shows what it prints, and keeps what it cost
+    bench/gate.py run FILE.json                 runs `rt ci --anew`, shows what it prints, and keeps the cost
     bench/gate.py table FILE.json [BEFORE.json] writes the table of docs/GATE.md, beside an earlier one where it is given
 
 Processor seconds are read from /proc five times a second, so each process may lack a fifth of a second. They are seconds
@@ -55,7 +55,7 @@ def run(to):
     top = os.getcwd()
     seen = {}
     began = time.time()
-    with subprocess.Popen(["rt", "ci"]) as gate:
+    with subprocess.Popen(["rt", "ci", "--anew"]) as gate:
         while gate.poll() is None:
             processes(seen)
             time.sleep(0.2)
