@@ -29,7 +29,7 @@ def processes(seen):
                 continue
             fields = stat[stat.rindex(")") + 2 :].split()
             key = f"{pid}.{fields[19]}"
-            if key not in seen:
+            if key not in seen or "--crate-name" not in seen[key]["words"]:
                 with open(f"/proc/{pid}/cmdline") as file:
                     words = file.read().split("\0")
                 seen[key] = {"words": [it for it in words if it], "folder": os.readlink(f"/proc/{pid}/cwd"), "seconds": 0}
