@@ -1,2 +1,4 @@
 pub mod Loops
 pub mod Stops
+pub mod Places
+pub mod Forms

@@ -6,3 +6,4 @@ pub mod Reading
 pub mod Stores
 pub mod Texts
 pub mod Urls
+pub mod UrlForm

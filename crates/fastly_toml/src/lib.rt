@@ -10,6 +10,7 @@ mod document;
 mod fault;
 mod files;
 mod kinds;
+mod laws;
 mod lists;
 mod maps;
 mod pieces;
@@ -20,5 +21,6 @@ mod texts;
 mod urls;
 
 pub use fault::{SettingsFault, SettingsKind};
+pub use laws::a_url_tells_one_backend;
 pub use read::read_settings;
 pub use settings::{Backend, Settings, Texts};
