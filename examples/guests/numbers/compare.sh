@@ -33,7 +33,7 @@ for source in "$here"/*.c; do
     clang -O1 -o "$folder/$name" "$source"
     "$folder/$name" >"$folder/wanted"
     cp "$folder/$name.wasm" "$runner/stdin"
-    (cd "$runner" && rt "$how" 2>log >out.txt) || { cat "$runner/log"; exit 1; }
+    (cd "$runner" && rt "$how" <stdin 2>log >out.txt) || { cat "$runner/log"; exit 1; }
     sed -n '/^returned$/q;p' "$runner/out.txt" >"$folder/told"
     if cmp -s "$folder/wanted" "$folder/told"; then
         echo "$name: $(wc -l <"$folder/wanted") numbers, $(tail -1 "$runner/out.txt") instructions"
