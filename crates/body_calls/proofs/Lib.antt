@@ -1,0 +1,11 @@
+pub mod PartFronts
+pub mod Heards
+pub mod Going
+pub mod Steps
+pub mod RowSteps
+pub mod Short
+pub mod Same
+pub mod OwnFirst
+pub mod PieceLaws
+pub mod RowPieces
+pub mod QuietBodies
