@@ -1,0 +1,5 @@
+pub mod Calls
+pub mod Handed
+pub mod Surrogates
+pub mod RuleNames
+pub mod Judging
