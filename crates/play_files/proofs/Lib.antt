@@ -1,0 +1,6 @@
+pub mod Fronts
+pub mod Lines
+pub mod Machines
+pub mod Again
+pub mod Goes
+pub mod Found
