@@ -1,0 +1,4 @@
+pub mod Words
+pub mod Load
+pub mod Playable
+pub mod Told
