@@ -1,0 +1,9 @@
+pub mod Lists
+pub mod Ways
+pub mod Sending
+pub mod Calls
+pub mod Going
+pub mod Steps
+pub mod Over
+pub mod Held
+pub mod Stays

@@ -1,0 +1,5 @@
+pub mod Wire
+pub mod Sent
+pub mod Outside
+pub mod Next
+pub mod Work
