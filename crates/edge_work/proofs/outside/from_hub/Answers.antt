@@ -1,4 +1,3 @@
-use Rattle.std.proofs.Common.{sym}
 use Rattle.cache_hub.specs.Calls.{HasShare}
 use Rattle.edge_work.proofs.Calls.{cache_ended}
 use Rattle.edge_work.proofs.outside.from_hub.Goals as goal

@@ -1,4 +1,4 @@
-use Rattle.std.proofs.Common.{refl, sym, ◌∙◌, ap, []}
+use Rattle.std.proofs.Common.{refl, ◌∙◌, ap}
 use Rattle.cache_hub.specs.Calls.{HasShare}
 use Rattle.player.specs.Plays.{is_over}
 use Rattle.edge_work.proofs.Ways.{ways, one_reading}
