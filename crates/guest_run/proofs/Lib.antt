@@ -1,0 +1,10 @@
+pub mod Calls
+pub mod Linking
+pub mod Existing
+pub mod Enough
+pub mod Stops
+pub mod Runs
+pub mod Instances
+pub mod RowCalls
+pub mod Answering
+pub mod Offering

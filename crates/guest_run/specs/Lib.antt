@@ -1,0 +1,6 @@
+pub mod Next
+pub mod Origins
+pub mod Services
+pub mod Lives
+pub mod Beginnings
+pub mod Guests
