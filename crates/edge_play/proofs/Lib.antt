@@ -1,13 +1,4 @@
-pub mod Calls
-pub mod Closings
 pub mod Ends
-pub mod Found
-pub mod Guests
-pub mod Readiness
-pub mod Results
-pub mod Scripts
-pub mod Seats
-pub mod Tries
-pub mod Turning
-pub mod Wants
-pub mod Worlds
+pub mod Runs
+pub mod Silence
+pub mod NewGuests

@@ -1,5 +1,4 @@
-pub mod Script
 pub mod Schedule
 pub mod Blocks
-pub mod Ready
 pub mod OneResult
+pub mod Guests

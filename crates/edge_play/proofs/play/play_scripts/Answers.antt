@@ -1,52 +1,34 @@
-use Rattle.std.proofs.Common.{◌≡◌, List, [], map, ap, subst, sym, ◌∙◌}
-use Rattle.cache_types.specs.declared.entries.Entry.{Entry}
-use Rattle.cache_types.specs.Limits.{is_within_limits}
-use Rattle.cache_types.specs.Entries.{newest_first}
-use Rattle.edge_play.specs.Schedule.{Seat, World, PlayGives, start_of, new_seat, blocks_from}
-use Rattle.edge_play.specs.Blocks.{HasBlocks}
-use Rattle.edge_play.specs.Ready.{IsReady, scripts_of, world_of}
-use Rattle.edge_play.proofs.Ends.{start-ready, scripts-start, has-blocks, list_all-reverse}
-use Rattle.edge_play.proofs.Wants.{one-result}
-use Rattle.edge_play.proofs.Results.{ifok-one, onok-from}
+use Rattle.std.proofs.Common.{◌∙◌, List, length, ap, subst, sym}
+use Rattle.std.specs.Prelude.{IsTrue}
+use Rattle.scripted_guest.specs.Scripted.{State}
+use Rattle.schedule_play.specs.Schedule.{are_steps_of}
+use Rattle.schedule_play.proofs.Results.{ifok-one}
+use Rattle.edge_play.specs.Schedule.{programs_of}
+use Rattle.edge_play.specs.Guests.{AreGuests}
+use Rattle.edge_play.proofs.NewGuests.{guests-count}
+use Rattle.edge_play.proofs.Runs.{has-blocks}
+use Rattle.edge_play.proofs.Silence.{played-silent, one-silent}
 use Rattle.edge_play.proofs.play.play_scripts.Goals as goal
 
-pub take_steps-requires-clause-ready : goal.take_steps-requires-clause-ready
-take_steps-requires-clause-ready g c =
-    let past : newest_first (g.S.OneCache.history c.args.cache.now) ≡ [] = ap newest_first c.requires.empty in
-    subst (λ seats. IsReady (world_of (g.S.OneCache.history c.args.cache.now) seats)) (sym c.in_ok-players.ensures)
-    (subst (λ p. IsReady (record { past = p; seats = map new_seat c.args.scripts.now })) (sym past) (start-ready c.args.scripts.now c.requires.scripts))
+pub play-requires-clause-players : goal.play-requires-clause-players
+play-requires-clause-players g c = (programs_of c.args.scripts.now, subst (λ (guests : List State). AreGuests guests c.args.scripts.now) (sym c.as_mut_slice.ensures.value) c.in_ok-guests.ensures)
 
-pub returns-clause-blocks : goal.returns-clause-blocks
-returns-clause-blocks g c =
-    let seats = c.close.new.players.items in
-    let scripts : scripts_of seats ≡ c.args.scripts.now =
-    c.in_ok-close.ensures.scripts ∙ (c.in_ok-take_steps.ensures.scripts ∙ (ap scripts_of c.in_ok-players.ensures ∙ scripts-start c.args.scripts.now))
-    in
-    ifok-one c.blocks_of.result c.blocks_of.ensures
-    (λ blocks is.
-    subst (HasBlocks (g.S.OneCache.history c.close.new.cache) c.args.scripts.now) (sym (is ∙ ap (blocks_from 1) c.as_slice.ensures.value))
-    (has-blocks (g.S.OneCache.history c.close.new.cache) c.args.scripts.now seats c.in_ok-close.ensures.ready c.in_ok-close.ensures.over scripts))
+pub play-requires-clause-steps : goal.play-requires-clause-steps
+play-requires-clause-steps g c =
+    let count = guests-count c.in_ok-guests.guests.items c.args.scripts.now c.in_ok-guests.ensures in
+    subst (λ n. IsTrue (are_steps_of n c.args.steps.now)) (sym (ap length c.as_mut_slice.ensures.value ∙ count)) c.requires.steps
 
-pub returns-clause-limits : goal.returns-clause-limits
-returns-clause-limits g c =
-    onok-from c.blocks_of.result (list_all-reverse (λ (e : Entry). is_within_limits e.call) (g.S.OneCache.history c.close.new.cache) c.in_ok-close.ensures.ready.limits)
+pub returns-clause-schedule : goal.returns-clause-schedule
+returns-clause-schedule g c =
+    let new = subst (λ (guests : List State). AreGuests guests c.args.scripts.now) (sym c.as_mut_slice.ensures.value) c.in_ok-guests.ensures in
+    ifok-one c.play.result (c.play.ensures.schedule (programs_of c.args.scripts.now) new) (λ blocks is. played-silent _ (g.S.OneCache.most c.args.cache.now) c.args.scripts.now c.args.steps.now _ _ _ blocks.items is)
 
 pub returns-clause-one_result : goal.returns-clause-one_result
 returns-clause-one_result g c =
-    let history = g.S.OneCache.history in
-    let most = g.S.OneCache.most c.args.cache.now in
-    let scripts = c.args.scripts.now in
-    let last : World = world_of (history c.take_steps.new.cache) c.take_steps.new.players.items in
-    let first : world_of (history c.args.cache.now) c.in_ok-players.players.items ≡ start_of scripts =
-    ap (λ (past : List Entry). record { past = past; seats = c.in_ok-players.players.items }) (ap newest_first c.requires.empty)
-    ∙ ap (λ (seats : List Seat). record { past = []; seats = seats }) c.in_ok-players.ensures
-    in
-    ifok-one c.blocks_of.result c.blocks_of.ensures
-    (λ blocks is.
-    one-result most scripts c.args.steps.now (history c.close.new.cache) blocks.items c.requires.steps
-    (record {
-      last = last;
-      steps_give = subst (λ (world : World). PlayGives most c.args.steps.now world last) first c.in_ok-take_steps.ensures.play;
-      history_is = ap (λ (world : World). world.past) c.in_ok-close.ensures.closed;
-      blocks_are = is ∙ (ap (blocks_from 1) c.as_slice.ensures.value ∙ ap (λ (world : World). blocks_from 1 world.seats) c.in_ok-close.ensures.closed);
-    }))
+    let new = subst (λ (guests : List State). AreGuests guests c.args.scripts.now) (sym c.as_mut_slice.ensures.value) c.in_ok-guests.ensures in
+    ifok-one c.play.result (c.play.ensures.schedule (programs_of c.args.scripts.now) new) (λ blocks is. one-silent _ (g.S.OneCache.most c.args.cache.now) c.args.scripts.now c.args.steps.now _ _ _ blocks.items is)
+
+pub returns-clause-blocks : goal.returns-clause-blocks
+returns-clause-blocks g c =
+    let new = subst (λ (guests : List State). AreGuests guests c.args.scripts.now) (sym c.as_mut_slice.ensures.value) c.in_ok-guests.ensures in
+    ifok-one c.play.result (c.play.ensures.blocks (programs_of c.args.scripts.now) new) (λ blocks has. has-blocks _ c.args.scripts.now blocks.items has)
