@@ -4,6 +4,7 @@ pub mod Command
 pub mod Worked
 pub mod Script
 pub mod Check
+pub mod Load
 pub mod Does
 pub mod Several
 pub mod Parts

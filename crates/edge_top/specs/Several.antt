@@ -3,7 +3,7 @@
 -- the case
 --     ReadsThen (module ∷ (settings ∷ (run ∷ []))) AfterFiles reads worked
 -- where `AfterFiles (module ∷ (settings ∷ (run ∷ [])))` is
---     Then (Loads module) (λ loaded. Then (Sets settings) (λ set. ReadsThen set.names (Plays loaded set run)))
+--     Then (Links module) (λ loaded. Then (Sets settings) (λ set. ReadsThen set.names (Plays loaded set run)))
 use Rattle.std.specs.Prelude.{◌≡◌, ℕ, List, [], ◌∷◌, ◌++◌, Result, Ok, Err}
 use Rattle.edge_outside.specs.declared.fault.IoFault.{IoFault}
 use Rattle.edge_outside.specs.declared.fault.IoFault.TheVariants as io

@@ -1,7 +1,7 @@
 use Rattle.std.proofs.Common.{rules, ℕ, List, [], ◌∷◌, Result, Ok, Err, refl, subst}
 use Rattle.edge_outside.specs.declared.fault.IoFault.{IoFault}
 use Rattle.edge_outside.specs.Files.{IsRead}
-use Rattle.edge_outside.specs.Made.{made_one}
+use Rattle.edge_outside.specs.Made.{made_none, made_one}
 use Rattle.edge_outside.proofs.Contents.{read_made}
 use Rattle.edge_top.specs.Check.{Checks}
 use Rattle.edge_top.specs.Script.{Scripts}
@@ -54,3 +54,6 @@ returns-in_ok-read-in-Check-clause-works g c =
         rw c.in-Check.is (refl, subst (λ bytes. Checks bytes c.check_text.result) c.as_slice-in-Check.ensures.value c.check_text.ensures.gives),
       ),
     )
+
+pub returns-in-Load-clause-works : goal.returns-in-Load-clause-works
+returns-in-Load-clause-works g c = ([], (made_none (IsRead g.F.Files.reads g.F.Files.content) c.args.files.now, rw c.in-Load.is (refl, c.load_text.ensures.gives)))
