@@ -52,6 +52,8 @@ script;edge-run 1/steps/end/;;Usage
 script ;edge-run 1/steps/end/;;Usage
 Script a;edge-run 1/steps/end/;;Usage
 load 07;edge-run 1/steps/end/;;Usage
+load a;edge-run 1/steps/end/;;Usage
+load 18446744073709551616;edge-run 1/steps/end/;;Usage
 script -a;edge-run 1/steps/end/;;Usage
 script a b;edge-run 1/steps/end/;;Usage
 script b;edge-run 1/steps/end/;;ReadFault

@@ -1,9 +1,15 @@
 //! Run files with their journals.
 
 use crate::commands::exit_of;
-use edge_top::{Exit, journal_of};
+use cache_core::CoreCache;
+use cache_plain::PlainCache;
+use cache_refusing::RefusingCache;
+use edge_top::{Exit, journal_of, journal_over};
 use run_files::read_run;
 use std::test::Fail;
+
+/// The greatest number of entries and live guests in a command.
+const MOST: u64 = 1_000_000;
 
 /// What is shown, the run file and its journal.
 const ROWS: &str = "\
@@ -67,6 +73,12 @@ fn journals_are_written(rt: HostRuntime) -> Result<(), Fail> {
         let (exit, written) = exit_of(&rt, "script a", text.as_bytes(), "")?;
         assert!(rt; exit == Exit::Ok, "{name}");
         assert!(rt; written.as_slice() == journal.as_bytes(), "{name}");
+        let run = read_run(rt.alloc(), text.as_bytes()).map_err(|_| "no run")?;
+        let plain = journal_over(rt.alloc(), PlainCache::new(rt.alloc(), MOST), &run)?;
+        assert!(rt;
+            plain.bytes() == journal.as_bytes(),
+            "{name}, over the plain cache"
+        );
     }
     Ok(())
 }
@@ -88,6 +100,33 @@ fn a_full_history_stops_guests(rt: HostRuntime) -> Result<(), Fail> {
         let run = read_run(rt.alloc(), text.as_bytes()).map_err(|_| "no run")?;
         let journal = journal_of(rt.alloc(), 4, &run)?;
         assert!(rt; journal.bytes() == wanted.as_bytes(), "{name}");
+        let plain = journal_over(rt.alloc(), PlainCache::new(rt.alloc(), 4), &run)?;
+        assert!(rt;
+            plain.bytes() == wanted.as_bytes(),
+            "{name}, over the plain cache"
+        );
     }
+    Ok(())
+}
+
+/// A guest whose transaction is awaited finds no memory to cancel it: the fifth step that is no end, one that waits among
+/// them.
+const WANTING: &str = "\
+edge-run 1\nguest\ntxlookup 6b\ntxcancel @1\nguest\ntxlookup 6b\nsteps\n0 1\n0 1\n0 2\n0 2\n0 1\n0 2\n0 1\n0 2\nend\n|\
+edge-journal 1\n1 1 0 begin = begun\n2 1 0 txlookup 6b = got 8\n3 3 0 begin = begun\n4 1 0 end = done\n5 3 0 txlookup 6b = got 8\n6 3 0 end = done\nguest 1 1\nc 1\nc 2\nc 4\nover memory\nguest 2 3\nc 3\nc 5\nc 6\nover returned\nend 6\n";
+
+#[test]
+fn want_of_memory_stops_a_guest(rt: HostRuntime) -> Result<(), Fail> {
+    let (text, wanted) = WANTING.split_once('|').ok_or("no journal")?;
+    let run = read_run(rt.alloc(), text.as_bytes()).map_err(|_| "no run")?;
+    let core = RefusingCache::new(CoreCache::new(rt.alloc(), MOST), 5);
+    let journal = journal_over(rt.alloc(), core, &run)?;
+    assert!(rt; journal.bytes() == wanted.as_bytes());
+    let plain = RefusingCache::new(PlainCache::new(rt.alloc(), MOST), 5);
+    let journal = journal_over(rt.alloc(), plain, &run)?;
+    assert!(rt;
+        journal.bytes() == wanted.as_bytes(),
+        "over the plain cache"
+    );
     Ok(())
 }

@@ -6,4 +6,6 @@ mod commands;
 #[cfg(test)]
 mod journals;
 #[cfg(test)]
+mod loads;
+#[cfg(test)]
 mod modules;
