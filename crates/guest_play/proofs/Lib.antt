@@ -1,0 +1,2 @@
+pub mod NewGuests
+pub mod Journals
