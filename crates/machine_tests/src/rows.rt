@@ -75,9 +75,9 @@ fn of_module(
 }
 
 // Function 0 takes and gives nothing, and has this code; function 1 takes a number and gives it. The table has four entries, of
-// which the first two name them, and the memory one page, of at most two.
+// which the first two name them, the memory one page, of at most two, and there is a global, which may change.
 const ALONE: &[u8] =
-    b"\0asm\x01\0\0\0\x01\x09\x02`\0\0`\x01\x7F\x01\x7F\x03\x03\x02\0\x01\x04\x04\x01p\0\x04\x05\x04\x01\x01\x01\x02\x09\x08\x01\0A\0\x0B\x02\0\x01";
+    b"\0asm\x01\0\0\0\x01\x09\x02`\0\0`\x01\x7F\x01\x7F\x03\x03\x02\0\x01\x04\x04\x01p\0\x04\x05\x04\x01\x01\x01\x02\x06\x06\x01\x7F\x01A\0\x0B\x09\x08\x01\0A\0\x0B\x02\0\x01";
 
 const NOTHING: &[u8] = b"";
 
@@ -116,7 +116,7 @@ fn told(rt: &HostRuntime, asks: bool, code: &[u8], fuel: u64) -> Result<(&'stati
 
 #[test]
 fn rows(rt: HostRuntime) -> Result<(), Fail> {
-    let rows: [(bool, &[u8], u64, (&'static str, u64)); 28] = [
+    let rows: [(bool, &[u8], u64, (&'static str, u64)); 34] = [
         (false, b"\x0B", 0, ("returned", 0)),
         (false, b"\x01\x01\x01\x0B", 0, ("out of fuel", 0)),
         (false, b"\x01\x01\x01\x0B", 1, ("out of fuel", 0)),
@@ -208,6 +208,42 @@ fn rows(rt: HostRuntime) -> Result<(), Fail> {
             b"\x41\x01\x40\0\x41\x01\x40\0\x6A\x3F\0\x6A\x41\x02\x47\x04\x40\0\x0B\x0B",
             20,
             ("returned", 10),
+        ),
+        // A number is dropped, and the function left before its end.
+        (false, b"\x41\x07\x1A\x0F\0\x0B", 9, ("returned", 6)),
+        // A function gives back the number that it is called with.
+        (
+            false,
+            b"\x41\x07\x10\x01\x41\x07\x47\x04\x40\0\x0B\x0B",
+            20,
+            ("returned", 14),
+        ),
+        // A local and a global that were written.
+        (
+            false,
+            b"\x41\x07\x21\0\x41\x09\x24\0\x20\0\x23\0\x6A\x41\x10\x47\x04\x40\0\x0B\x0B",
+            20,
+            ("returned", 10),
+        ),
+        // Of 7 and 5 the second where the test is zero; the zeros before 5.
+        (
+            false,
+            b"\x41\x07\x41\x05\x41\x01\x45\x1B\x67\x41\x1D\x47\x04\x40\0\x0B\x0B",
+            20,
+            ("returned", 11),
+        ),
+        // Numbers of 64 bits: 5 less 3, the zeros before 2, through 32 bits and back in both ways.
+        (
+            false,
+            b"\x42\x05\x42\x03\x7D\x79\xA7\xAC\xA7\xAD\x42\x3E\x52\x04\x40\0\x0B\x0B",
+            20,
+            ("returned", 9),
+        ),
+        (
+            false,
+            b"\x42\0\x50\x45\x04\x40\0\x0B\x0B",
+            20,
+            ("returned", 16),
         ),
         // An import is asked with 7 and answers 5; a byte that it wrote is there.
         (
