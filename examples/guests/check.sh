@@ -1,7 +1,7 @@
 #!/usr/bin/env bash
 # Builds the guests of this folder and checks them: those in C give the modules that are kept beside them, or others that
 # `edge check` says the same of, where another compiler built them; float.c is told as float-used; a module that imports
-# every call of edge.h is accepted. hello.rs is built where rustc has the target. It stands outside the gate, and is
+# every call of edge.h is accepted. hello.rs is built where rustc has a target for it. It stands outside the gate, and is
 # skipped where clang or wasm-ld is missing. EDGE names another program than the launcher.
 set -eu
 cd "$(dirname "$0")"
@@ -16,6 +16,8 @@ work=$(mktemp -d)
 trap 'rm -rf "$work"' EXIT
 
 for source in */*.c; do
+    # Programs of numbers/ are no guests, and have no modules.
+    [ -f "${source%.c}.wasm" ] || continue
     ./build.sh "$source" "$work/guest.wasm"
     told=$("$edge" check "$work/guest.wasm")
     kept=$("$edge" check "${source%.c}.wasm")

@@ -9,6 +9,8 @@
 // Calls of two modules may have one name: for WebAssembly the module is part of the import.
 #![allow(clashing_extern_declarations)]
 
+use core::mem::{align_of, size_of, transmute, MaybeUninit};
+
 /// Counts from 1, each kind by itself; no number is given twice. A guest gets at most 65,536 of a kind.
 pub type Handle = u32;
 
@@ -73,7 +75,7 @@ pub struct LookupOptions {
 
 /// The options of an insertion or an update. Places are those of bytes, as `place` gives them.
 #[repr(C)]
-#[derive(Default)]
+#[derive(Clone, Copy, Default)]
 pub struct WriteOptions {
     pub max_age_ns: u64,
     pub request_headers: Handle,
@@ -88,9 +90,28 @@ pub struct WriteOptions {
     pub user_metadata_length: u32,
 }
 
+/// No options: all is 0.
+pub const NO_OPTIONS: WriteOptions = WriteOptions {
+    max_age_ns: 0,
+    request_headers: 0,
+    vary_rule: 0,
+    vary_rule_length: 0,
+    initial_age_ns: 0,
+    stale_while_revalidate_ns: 0,
+    surrogate_keys: 0,
+    surrogate_keys_length: 0,
+    length: 0,
+    user_metadata: 0,
+    user_metadata_length: 0,
+};
+
+// Where each field stands: its lowest byte, in options of which it alone is 1.
 macro_rules! at {
     ($field:ident, $place:literal) => {
-        const _: () = assert!(core::mem::offset_of!(WriteOptions, $field) == $place);
+        const _: () = {
+            let bytes: [MaybeUninit<u8>; 64] = unsafe { transmute(WriteOptions { $field: 1, ..NO_OPTIONS }) };
+            assert!(unsafe { bytes[$place].assume_init() } == 1);
+        };
     };
 }
 at!(max_age_ns, 0);
@@ -123,7 +144,7 @@ pub mod abi {
     use super::*;
 
     #[link(wasm_import_module = "fastly_abi")]
-    unsafe extern "C" {
+    extern "C" {
         pub fn init(version: u64) -> Status;
     }
 }
@@ -132,7 +153,7 @@ pub mod http_body {
     use super::*;
 
     #[link(wasm_import_module = "fastly_http_body")]
-    unsafe extern "C" {
+    extern "C" {
         pub fn new(body: *mut Handle) -> Status;
         pub fn append(to: Handle, from: Handle) -> Status;
         pub fn read(body: Handle, buffer: *mut u8, room: u32, length: *mut u32) -> Status;
@@ -147,7 +168,7 @@ pub mod http_req {
     use super::*;
 
     #[link(wasm_import_module = "fastly_http_req")]
-    unsafe extern "C" {
+    extern "C" {
         pub fn new(request: *mut Handle) -> Status;
         pub fn close(request: Handle) -> Status;
         pub fn header_names_get(
@@ -184,7 +205,7 @@ pub mod http_resp {
     use super::*;
 
     #[link(wasm_import_module = "fastly_http_resp")]
-    unsafe extern "C" {
+    extern "C" {
         pub fn new(response: *mut Handle) -> Status;
         pub fn close(response: Handle) -> Status;
         pub fn header_names_get(
@@ -219,7 +240,7 @@ pub mod dictionary {
     use super::*;
 
     #[link(wasm_import_module = "fastly_dictionary")]
-    unsafe extern "C" {
+    extern "C" {
         pub fn open(name: *const u8, length: u32, dictionary: *mut Handle) -> Status;
         pub fn get(
             dictionary: Handle, key: *const u8, key_length: u32, buffer: *mut u8, room: u32, length: *mut u32,
@@ -231,7 +252,7 @@ pub mod config_store {
     use super::*;
 
     #[link(wasm_import_module = "fastly_config_store")]
-    unsafe extern "C" {
+    extern "C" {
         pub fn open(name: *const u8, length: u32, store: *mut Handle) -> Status;
         pub fn get(
             store: Handle, key: *const u8, key_length: u32, buffer: *mut u8, room: u32, length: *mut u32,
@@ -243,7 +264,7 @@ pub mod secret_store {
     use super::*;
 
     #[link(wasm_import_module = "fastly_secret_store")]
-    unsafe extern "C" {
+    extern "C" {
         pub fn open(name: *const u8, length: u32, store: *mut Handle) -> Status;
         pub fn get(store: Handle, key: *const u8, key_length: u32, secret: *mut Handle) -> Status;
         pub fn plaintext(secret: Handle, buffer: *mut u8, room: u32, length: *mut u32) -> Status;
@@ -254,7 +275,7 @@ pub mod log {
     use super::*;
 
     #[link(wasm_import_module = "fastly_log")]
-    unsafe extern "C" {
+    extern "C" {
         pub fn endpoint_get(name: *const u8, length: u32, endpoint: *mut Handle) -> Status;
         pub fn write(endpoint: Handle, line: *const u8, length: u32, written: *mut u32) -> Status;
     }
@@ -264,7 +285,7 @@ pub mod cache {
     use super::*;
 
     #[link(wasm_import_module = "fastly_cache")]
-    unsafe extern "C" {
+    extern "C" {
         pub fn lookup(
             key: *const u8, length: u32, mask: u32, options: *const LookupOptions, lookup: *mut Handle,
         ) -> Status;
@@ -301,7 +322,7 @@ pub mod purge {
     use super::*;
 
     #[link(wasm_import_module = "fastly_purge")]
-    unsafe extern "C" {
+    extern "C" {
         pub fn purge_surrogate_key(key: *const u8, length: u32, mask: u32, options: *mut u8) -> Status;
     }
 }
@@ -310,7 +331,7 @@ pub mod wasi {
     use super::*;
 
     #[link(wasm_import_module = "wasi_snapshot_preview1")]
-    unsafe extern "C" {
+    extern "C" {
         pub fn proc_exit(code: u32) -> !;
         pub fn fd_write(fd: u32, parts: *const Ciovec, count: u32, written: *mut u32) -> u32;
         pub fn random_get(buffer: *mut u8, length: u32) -> u32;

@@ -9,7 +9,7 @@ use edge::{abi, http_body, http_resp, status, BACK};
 
 const TEXT: &[u8] = b"hello\n";
 
-#[unsafe(no_mangle)]
+#[no_mangle]
 pub extern "C" fn _start() {
     let (mut response, mut body, mut written) = (0, 0, 0);
     unsafe {
