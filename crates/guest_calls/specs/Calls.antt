@@ -1,13 +1,14 @@
 -- Which calls stand.
 use Rattle.std.specs.Prelude.{Option, None, Some}
 use Rattle.edge_imports.specs.declared.hostcall.Hostcall.{Hostcall}
-use Rattle.edge_imports.specs.declared.hostcall.Hostcall.TheVariants.{AbiInit, BodyNew, BodyKnownLength, RequestNew, RequestClose, RequestHeaderNamesGet, RequestHeaderValueGet, RequestHeaderValuesGet, RequestHeaderValuesSet, RequestHeaderInsert, RequestHeaderAppend, RequestHeaderRemove, RequestVersionGet, RequestVersionSet, RequestBodyDownstreamGet, RequestMethodGet, RequestMethodSet, RequestUriGet, RequestUriSet, ResponseNew, ResponseClose, ResponseHeaderNamesGet, ResponseHeaderValueGet, ResponseHeaderValuesGet, ResponseHeaderValuesSet, ResponseHeaderInsert, ResponseHeaderAppend, ResponseHeaderRemove, ResponseVersionGet, ResponseVersionSet, ResponseStatusGet, ResponseStatusSet, WasiProcExit, WasiClockTimeGet}
+use Rattle.edge_imports.specs.declared.hostcall.Hostcall.TheVariants.{AbiInit, BodyNew, BodyAppend, BodyRead, BodyWrite, BodyClose, BodyAbandon, BodyKnownLength, RequestNew, RequestClose, RequestHeaderNamesGet, RequestHeaderValueGet, RequestHeaderValuesGet, RequestHeaderValuesSet, RequestHeaderInsert, RequestHeaderAppend, RequestHeaderRemove, RequestVersionGet, RequestVersionSet, RequestBodyDownstreamGet, RequestMethodGet, RequestMethodSet, RequestUriGet, RequestUriSet, ResponseNew, ResponseClose, ResponseHeaderNamesGet, ResponseHeaderValueGet, ResponseHeaderValuesGet, ResponseHeaderValuesSet, ResponseHeaderInsert, ResponseHeaderAppend, ResponseHeaderRemove, ResponseVersionGet, ResponseVersionSet, ResponseStatusGet, ResponseStatusSet, ResponseSendDownstream, WasiProcExit, WasiClockTimeGet}
 use Rattle.guest_calls.specs.declared.call.Call.{Call}
 use Rattle.guest_calls.specs.declared.call.Call.TheVariants.{Exit, Row}
-use Rattle.guest_calls.specs.declared.call.RowCall.TheVariants.{Http, Own}
+use Rattle.guest_calls.specs.declared.call.RowCall.TheVariants.{Http, Parts, Own}
 use Rattle.guest_calls.specs.declared.call.HttpCall.TheVariants.{Request, RequestHeaders, Response, ResponseHeaders, Body}
 use Rattle.guest_calls.specs.declared.call.OwnCall.TheVariants as own_call
 use Rattle.guest_calls.specs.declared.call.BodyCall.TheVariants as body_call
+use Rattle.guest_calls.specs.declared.call.PartsCall.TheVariants as parts_call
 use Rattle.guest_calls.specs.declared.call.RequestCall.TheVariants as request_call
 use Rattle.guest_calls.specs.declared.call.ResponseCall.TheVariants as response_call
 use Rattle.guest_calls.specs.declared.call.HeaderCall.TheVariants as header_call
@@ -16,6 +17,11 @@ use Rattle.guest_calls.specs.declared.call.HeaderCall.TheVariants as header_call
 abbrev pub standing : Hostcall → Option Call
 standing AbiInit = Some (Row (Own own_call.Init))
 standing BodyNew = Some (Row (Http (Body body_call.New)))
+standing BodyAppend = Some (Row (Parts parts_call.Append))
+standing BodyRead = Some (Row (Parts parts_call.Read))
+standing BodyWrite = Some (Row (Parts parts_call.Write))
+standing BodyClose = Some (Row (Parts parts_call.Close))
+standing BodyAbandon = Some (Row (Parts parts_call.Abandon))
 standing BodyKnownLength = Some (Row (Http (Body body_call.KnownLength)))
 standing RequestNew = Some (Row (Http (Request request_call.New)))
 standing RequestClose = Some (Row (Http (Request request_call.Close)))
@@ -46,6 +52,7 @@ standing ResponseVersionGet = Some (Row (Http (Response response_call.VersionGet
 standing ResponseVersionSet = Some (Row (Http (Response response_call.VersionSet)))
 standing ResponseStatusGet = Some (Row (Http (Response response_call.StatusGet)))
 standing ResponseStatusSet = Some (Row (Http (Response response_call.StatusSet)))
+standing ResponseSendDownstream = Some (Row (Parts parts_call.SendDownstream))
 standing WasiProcExit = Some Exit
 standing WasiClockTimeGet = Some (Row (Own own_call.ClockTimeGet))
 standing _ = None

@@ -17,17 +17,20 @@ use Rattle.edge_http_calls.specs.Tables.{request_fields, response_fields, with_r
 use Rattle.edge_http_calls.specs.Requests.{http_req_new, http_req_close, http_req_version_get, http_req_version_set, http_req_body_downstream_get, http_req_method_get, http_req_method_set, http_req_uri_get, http_req_uri_set}
 use Rattle.edge_http_calls.specs.Responses.{http_resp_new, http_resp_close, http_resp_version_get, http_resp_version_set, http_resp_status_get, http_resp_status_set}
 use Rattle.edge_http_calls.specs.Headers.{header_names_get, header_value_get, header_values_get, header_values_set, header_insert, header_append, header_remove}
-use Rattle.edge_http_calls.specs.Bodies.{http_body_new, http_body_known_length}
+use Rattle.edge_http_calls.specs.Bodies.{http_body_new, http_body_append, http_body_read, http_body_write, http_body_close, http_body_abandon, http_body_known_length}
+use Rattle.answer_calls.specs.Sends.{http_resp_send_downstream}
 use Rattle.guest_calls.specs.declared.call.Call.{Call}
 use Rattle.guest_calls.specs.declared.call.Call.TheVariants as calls
 use Rattle.guest_calls.specs.declared.call.RowCall.{RowCall}
-use Rattle.guest_calls.specs.declared.call.RowCall.TheVariants.{Http, Own}
+use Rattle.guest_calls.specs.declared.call.RowCall.TheVariants.{Http, Parts, Own}
 use Rattle.guest_calls.specs.declared.call.HttpCall.{HttpCall}
 use Rattle.guest_calls.specs.declared.call.HttpCall.TheVariants as http
 use Rattle.guest_calls.specs.declared.call.OwnCall.{OwnCall}
 use Rattle.guest_calls.specs.declared.call.OwnCall.TheVariants.{Init, ClockTimeGet}
 use Rattle.guest_calls.specs.declared.call.BodyCall.{BodyCall}
 use Rattle.guest_calls.specs.declared.call.BodyCall.TheVariants as body
+use Rattle.guest_calls.specs.declared.call.PartsCall.{PartsCall}
+use Rattle.guest_calls.specs.declared.call.PartsCall.TheVariants as parts
 use Rattle.guest_calls.specs.declared.call.RequestCall.{RequestCall}
 use Rattle.guest_calls.specs.declared.call.RequestCall.TheVariants as request
 use Rattle.guest_calls.specs.declared.call.ResponseCall.{ResponseCall}
@@ -106,6 +109,16 @@ http_row (http.Response call) w t m = response_row call w t m
 http_row (http.ResponseHeaders call) w t m = response_headers call w t m
 http_row (http.Body call) w t m = body_row call w t m
 
+-- ---- the parts of bodies; the answer's head is told for the request that came
+
+abbrev pub parts_row : PartsCall → Request → Words → HttpTables → Linear → Row HttpTables
+parts_row parts.Append request w t m = http_body_append t m w.a w.b
+parts_row parts.Read request w t m = http_body_read t m w.a w.b w.c w.d
+parts_row parts.Write request w t m = http_body_write t m w.a w.b w.c w.d w.e
+parts_row parts.Close request w t m = http_body_close t m w.a
+parts_row parts.Abandon request w t m = http_body_abandon t m w.a
+parts_row parts.SendDownstream request w t m = http_resp_send_downstream request t m w.a w.b w.c
+
 -- ---- rows that need no table
 
 -- init(i64): 1 is the one version
@@ -151,6 +164,7 @@ on_http row t m replies = with_http t (row t.http m replies)
 
 abbrev pub called : RowCall → List Value → GuestTables → Linear → Row GuestTables
 called (Http call) a t m = on_http (http_row call (words_of a)) t m
+called (Parts call) a t m = on_http (parts_row call t.request (words_of a)) t m
 called (Own call) a t m = own_row call (long a 0) (words_of a) t m
 
 abbrev pub row_of : Call → List Value → GuestTables → Linear → Row GuestTables

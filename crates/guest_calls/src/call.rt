@@ -41,7 +41,7 @@ pub enum HeaderCall {
     Remove,
 }
 
-/// A call of `fastly_http_body`.
+/// A call of `fastly_http_body` that makes no outer call.
 #[derive(Clone, Copy, Debug, PartialEq, Eq)]
 pub enum BodyCall {
     New,
@@ -58,6 +58,18 @@ pub enum HttpCall {
     Body(BodyCall),
 }
 
+/// A call on the parts of bodies, which are read, written on and ended: the others of `fastly_http_body`, and
+/// `send_downstream` of `fastly_http_resp`.
+#[derive(Clone, Copy, Debug, PartialEq, Eq)]
+pub enum PartsCall {
+    Append,
+    Read,
+    Write,
+    Close,
+    Abandon,
+    SendDownstream,
+}
+
 /// A call that needs no table of the guest.
 #[derive(Clone, Copy, Debug, PartialEq, Eq)]
 pub enum OwnCall {
@@ -71,6 +83,7 @@ pub enum OwnCall {
 #[derive(Clone, Copy, Debug, PartialEq, Eq)]
 pub enum RowCall {
     Http(HttpCall),
+    Parts(PartsCall),
     Own(OwnCall),
 }
 
@@ -124,6 +137,12 @@ fn body(call: BodyCall) -> Option<Call>
     http(HttpCall::Body(call))
 }
 
+fn parts(call: PartsCall) -> Option<Call>
+    ensures { result ≡ Some (Call.Row (RowCall.Parts call)) }
+{
+    Some(Call::Row(RowCall::Parts(call)))
+}
+
 /// The call, where its code stands.
 pub fn standing(call: Hostcall) -> Option<Call>
     ensures { result ≡ standing call }
@@ -131,6 +150,11 @@ pub fn standing(call: Hostcall) -> Option<Call>
     match call {
         Hostcall::AbiInit => own(OwnCall::Init),
         Hostcall::BodyNew => body(BodyCall::New),
+        Hostcall::BodyAppend => parts(PartsCall::Append),
+        Hostcall::BodyRead => parts(PartsCall::Read),
+        Hostcall::BodyWrite => parts(PartsCall::Write),
+        Hostcall::BodyClose => parts(PartsCall::Close),
+        Hostcall::BodyAbandon => parts(PartsCall::Abandon),
         Hostcall::BodyKnownLength => body(BodyCall::KnownLength),
         Hostcall::RequestNew => request(RequestCall::New),
         Hostcall::RequestClose => request(RequestCall::Close),
@@ -161,6 +185,7 @@ pub fn standing(call: Hostcall) -> Option<Call>
         Hostcall::ResponseVersionSet => response(ResponseCall::VersionSet),
         Hostcall::ResponseStatusGet => response(ResponseCall::StatusGet),
         Hostcall::ResponseStatusSet => response(ResponseCall::StatusSet),
+        Hostcall::ResponseSendDownstream => parts(PartsCall::SendDownstream),
         Hostcall::WasiProcExit => Some(Call::Exit),
         Hostcall::WasiClockTimeGet => own(OwnCall::ClockTimeGet),
         _ => None,

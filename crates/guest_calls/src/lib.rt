@@ -12,12 +12,14 @@
 mod call;
 mod http;
 mod own;
+mod parts;
 mod rows;
 mod tables;
 mod words;
 
 pub use call::{
-    BodyCall, Call, HeaderCall, HttpCall, OwnCall, RequestCall, ResponseCall, RowCall, standing,
+    BodyCall, Call, HeaderCall, HttpCall, OwnCall, PartsCall, RequestCall, ResponseCall, RowCall,
+    standing,
 };
 pub use rows::{GuestStep, Under, goes_on, row};
 pub use tables::GuestTables;

@@ -2,7 +2,8 @@
 ghost use Rattle.std.specs.Prelude.{◌≡◌};
 ghost use Rattle.edge_abi.specs.Goes.{Goes};
 ghost use Rattle.guest_calls.specs.Rows.{init_status, is_clock, may_tell, clock_time_get, clocked, own_row};
-ghost use Rattle.guest_calls.specs.Unders.{resumed, IsUnlinked};
+ghost use Rattle.body_calls.specs.Links.{IsUnlinked};
+ghost use Rattle.guest_calls.specs.Unders.{resumed};
 
 use crate::call::OwnCall;
 use crate::rows::{GuestStep, Under};

@@ -8,7 +8,7 @@ use Rattle.cache_types.specs.Entries.{is_begin, is_end}
 use Rattle.edge_abi.specs.Goes.{MayMake, is_of_rows}
 use Rattle.player.specs.Plays.{Answered, is_end_call}
 use Rattle.player.specs.May.{MayAsk, is_empty}
-use Rattle.guest_calls.specs.Unders.{asks_link}
+use Rattle.body_calls.specs.Links.{asks_link}
 
 no_end : (call : CacheCall) → is_of_rows call ≡ true → is_end call ≡ false
 no_end End h = cc h

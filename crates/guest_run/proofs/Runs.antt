@@ -28,7 +28,8 @@ use Rattle.guest_calls.specs.declared.call.RowCall.{RowCall}
 use Rattle.guest_calls.specs.declared.rows.Under.{Under}
 use Rattle.guest_calls.specs.declared.tables.GuestTables.{GuestTables}
 use Rattle.guest_calls.specs.Rows.{word, called}
-use Rattle.guest_calls.specs.Unders.{resumed, IsUnlinked}
+use Rattle.body_calls.specs.Links.{IsUnlinked}
+use Rattle.guest_calls.specs.Unders.{resumed}
 use Rattle.guest_run.specs.declared.life.Life.{Life}
 use Rattle.guest_run.specs.declared.life.Life.TheVariants.{Going, Paused}
 use Rattle.guest_run.specs.declared.life.Pause.{Pause}

@@ -20,7 +20,8 @@ use Rattle.guest_calls.specs.declared.call.Call.TheVariants.{Row}
 use Rattle.guest_calls.specs.declared.call.RowCall.{RowCall}
 use Rattle.guest_calls.specs.declared.rows.Under.{Under}
 use Rattle.guest_calls.specs.declared.tables.GuestTables.{GuestTables}
-use Rattle.guest_calls.specs.Unders.{resumed, asks_link}
+use Rattle.body_calls.specs.Links.{asks_link}
+use Rattle.guest_calls.specs.Unders.{resumed}
 use Rattle.guest_run.specs.declared.life.Life.{Life}
 use Rattle.guest_run.specs.declared.life.Life.TheVariants.{Going, Paused}
 use Rattle.guest_run.specs.declared.life.Pause.{Pause}
