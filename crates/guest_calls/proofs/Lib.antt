@@ -1,1 +1,2 @@
-pub mod OnHttp
+pub mod Among
+pub mod Links

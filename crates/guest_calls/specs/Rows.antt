@@ -1,16 +1,10 @@
 -- The rows by their calls. An argument that isn't there, which linking excludes, is 0.
-use Rattle.std.specs.Prelude.{ℕ, ◌%◌, Bool, ◌&&◌, ◌||◌, ◌==◌, List, [], slice_get, Option, Some, false, if◌then◌else◌}
+use Rattle.std.specs.Prelude.{ℕ, List, [], slice_get, Option, Some, false}
 use Rattle.cache_types.specs.declared.calls.Field.{Field}
-use Rattle.cache_types.specs.declared.outer.OuterCall.TheVariants as call
-use Rattle.cache_types.specs.declared.outer.OuterReply.{OuterReply}
-use Rattle.cache_types.specs.declared.outer.OuterReply.TheVariants as reply
 use Rattle.wasm_types.specs.declared.values.Value.{Value}
 use Rattle.wasm_types.specs.declared.values.Value.TheVariants.{I32, I64}
 use Rattle.wasm_memory.specs.Linear.{Linear}
-use Rattle.edge_abi.specs.declared.status.Status.{Status}
-use Rattle.edge_abi.specs.declared.status.Status.TheVariants as status
-use Rattle.edge_abi.specs.Memory.{has_range, number_put}
-use Rattle.edge_abi.specs.Told.{Told, Wants, Gives, Row, After, Code, ask, answers, done}
+use Rattle.edge_abi.specs.Told.{Told, Wants, Gives, Row, After}
 use Rattle.edge_body.specs.Heads.{Request}
 use Rattle.edge_http_calls.specs.declared.tables.HttpTables.{HttpTables}
 use Rattle.edge_http_calls.specs.Tables.{request_fields, response_fields, with_request_fields, with_response_fields}
@@ -18,15 +12,31 @@ use Rattle.edge_http_calls.specs.Requests.{http_req_new, http_req_close, http_re
 use Rattle.edge_http_calls.specs.Responses.{http_resp_new, http_resp_close, http_resp_version_get, http_resp_version_set, http_resp_status_get, http_resp_status_set}
 use Rattle.edge_http_calls.specs.Headers.{header_names_get, header_value_get, header_values_get, header_values_set, header_insert, header_append, header_remove}
 use Rattle.edge_http_calls.specs.Bodies.{http_body_new, http_body_append, http_body_read, http_body_write, http_body_close, http_body_abandon, http_body_known_length}
+use Rattle.rand_chacha.specs.ChaCha.{key_of}
+use Rattle.fastly_toml.specs.declared.settings.Settings.{Settings}
+use Rattle.edge_stores.specs.declared.tables.StoreTables.{StoreTables}
+use Rattle.edge_stores.specs.Stores.{abi_init, dictionary_open, dictionary_get, config_store_open, config_store_get, secret_store_open, secret_store_get, secret_store_plaintext}
+use Rattle.edge_stores.specs.Logs.{log_endpoint_get, log_write}
+use Rattle.edge_stores.specs.Wasi.{wasi_proc_exit, wasi_fd_write, wasi_random_get, wasi_clock_time_get, wasi_sizes_get, wasi_lists_get}
+use Rattle.cache_calls.specs.Tables.{HttpAndCache, both}
+use Rattle.cache_calls.specs.Rows.{cache_lookup, cache_insert, cache_transaction_lookup, cache_transaction_lookup_async, cache_cache_busy_handle_wait, cache_close_busy, cache_transaction_insert, cache_transaction_insert_and_stream_back, cache_transaction_update, cache_transaction_cancel, cache_close, cache_get_state, cache_get_user_metadata, cache_get_length, cache_get_max_age_ns, cache_get_stale_while_revalidate_ns, cache_get_age_ns, cache_get_body, purge_purge_surrogate_key}
 use Rattle.answer_calls.specs.Sends.{http_resp_send_downstream}
 use Rattle.guest_calls.specs.declared.call.Call.{Call}
 use Rattle.guest_calls.specs.declared.call.Call.TheVariants as calls
 use Rattle.guest_calls.specs.declared.call.RowCall.{RowCall}
-use Rattle.guest_calls.specs.declared.call.RowCall.TheVariants.{Http, Parts, Own}
+use Rattle.guest_calls.specs.declared.call.RowCall.TheVariants.{Http, Parts, Store, Wasi, Outside, Handle, Asking}
+use Rattle.guest_calls.specs.declared.call.StoreCall.{StoreCall}
+use Rattle.guest_calls.specs.declared.call.StoreCall.TheVariants as store
+use Rattle.guest_calls.specs.declared.call.WasiCall.{WasiCall}
+use Rattle.guest_calls.specs.declared.call.WasiCall.TheVariants as wasi
+use Rattle.guest_calls.specs.declared.call.OutsideCall.{OutsideCall}
+use Rattle.guest_calls.specs.declared.call.OutsideCall.TheVariants as outside
+use Rattle.guest_calls.specs.declared.call.HandleCall.{HandleCall}
+use Rattle.guest_calls.specs.declared.call.HandleCall.TheVariants as handle
+use Rattle.guest_calls.specs.declared.call.AskingCall.{AskingCall}
+use Rattle.guest_calls.specs.declared.call.AskingCall.TheVariants as asking
 use Rattle.guest_calls.specs.declared.call.HttpCall.{HttpCall}
 use Rattle.guest_calls.specs.declared.call.HttpCall.TheVariants as http
-use Rattle.guest_calls.specs.declared.call.OwnCall.{OwnCall}
-use Rattle.guest_calls.specs.declared.call.OwnCall.TheVariants.{Init, ClockTimeGet}
 use Rattle.guest_calls.specs.declared.call.BodyCall.{BodyCall}
 use Rattle.guest_calls.specs.declared.call.BodyCall.TheVariants as body
 use Rattle.guest_calls.specs.declared.call.PartsCall.{PartsCall}
@@ -119,61 +129,113 @@ parts_row parts.Close request w t m = http_body_close t m w.a
 parts_row parts.Abandon request w t m = http_body_abandon t m w.a
 parts_row parts.SendDownstream request w t m = http_resp_send_downstream request t m w.a w.b w.c
 
--- ---- rows that need no table
+-- ---- stores, logs and WASI
 
--- init(i64): 1 is the one version
-abbrev pub init_status : ℕ → Status
-init_status version = if version == 1 then status.Ok else status.Unsupported
+-- the rows that make no outer call; an `init` has its version in the one argument of 64 bits
+abbrev pub store_row : StoreCall → ℕ → Words → StoreTables → Settings → Linear → Row StoreTables
+store_row store.Init version w t s m = abi_init t m version
+store_row store.DictionaryOpen version w t s m = dictionary_open t s m w.a w.b w.c
+store_row store.DictionaryGet version w t s m = dictionary_get t s m w.a w.b w.c w.d w.e w.f
+store_row store.ConfigStoreOpen version w t s m = config_store_open t s m w.a w.b w.c
+store_row store.ConfigStoreGet version w t s m = config_store_get t s m w.a w.b w.c w.d w.e w.f
+store_row store.SecretStoreOpen version w t s m = secret_store_open t s m w.a w.b w.c
+store_row store.SecretStoreGet version w t s m = secret_store_get t s m w.a w.b w.c w.d
+store_row store.SecretStorePlaintext version w t s m = secret_store_plaintext t m w.a w.b w.c w.d
+store_row store.LogEndpointGet version w t s m = log_endpoint_get t m w.a w.b w.c
 
-abbrev pub abi_init : GuestTables → Linear → ℕ → Row GuestTables
-abi_init t m version = done (init_status version) t m
+abbrev pub wasi_row : WasiCall → Words → StoreTables → Linear → Row StoreTables
+wasi_row wasi.RandomGet w t m = wasi_random_get t m w.a w.b
+wasi_row wasi.EnvironSizesGet w t m = wasi_sizes_get t m w.a w.b
+wasi_row wasi.ArgsSizesGet w t m = wasi_sizes_get t m w.a w.b
+wasi_row wasi.EnvironGet w t m = wasi_lists_get t m w.a w.b
+wasi_row wasi.ArgsGet w t m = wasi_lists_get t m w.a w.b
 
--- the realtime clock and the monotonic one
-abbrev pub is_clock : ℕ → Bool
-is_clock clock = clock == 0 || clock == 1
+-- a line that is logged, a clock that is read; the clock's precision, of 64 bits, isn't looked at
+abbrev pub outside_row : OutsideCall → Words → StoreTables → Linear → Row StoreTables
+outside_row outside.LogWrite w t m = log_write t m w.a w.b w.c w.d
+outside_row outside.FdWrite w t m = wasi_fd_write t m w.a w.b w.c w.d
+outside_row outside.ClockTimeGet w t m = wasi_clock_time_get t m w.a w.c
 
-abbrev pub may_tell : Linear → ℕ → ℕ → Bool
-may_tell m clock place = has_range m place 8 && place % 8 == 0 && is_clock clock
+-- ---- the cache
 
--- the reading stands at the place; a reply of another kind, which none is given, answers inval
-abbrev pub clocked : GuestTables → Linear → ℕ → OuterReply → Row GuestTables
-clocked t m place (reply.Now reading) = answers 0 t (number_put m place 8 reading)
-clocked t m place _ = answers 28 t m
+-- the rows that ask it nothing
+abbrev pub handle_row : HandleCall → Words → HttpAndCache → Linear → Row HttpAndCache
+handle_row handle.TransactionLookupAsync w t m = cache_transaction_lookup_async t m w.a w.b w.c w.d w.e
+handle_row handle.CloseBusy w t m = cache_close_busy t m w.a
+handle_row handle.GetState w t m = cache_get_state t m w.a w.b
+handle_row handle.GetUserMetadata w t m = cache_get_user_metadata t m w.a w.b w.c w.d
+handle_row handle.GetLength w t m = cache_get_length t m w.a w.b
+handle_row handle.GetMaxAgeNs w t m = cache_get_max_age_ns t m w.a w.b
+handle_row handle.GetStaleWhileRevalidateNs w t m = cache_get_stale_while_revalidate_ns t m w.a w.b
+handle_row handle.GetAgeNs w t m = cache_get_age_ns t m w.a w.b
+handle_row handle.GetBody w t m = cache_get_body t m w.a w.b w.d
 
--- clock_time_get(id,i64,o8): the precision is passed over; 28 is inval of WASI
-abbrev pub clock_time_get : GuestTables → Linear → ℕ → ℕ → Row GuestTables
-clock_time_get t m clock place = if may_tell m clock place then ask (call.Now clock) (clocked t m place) else answers 28 t m
-
-abbrev pub own_row : OwnCall → ℕ → Words → GuestTables → Linear → Row GuestTables
-own_row Init version w t m = abi_init t m version
-own_row ClockTimeGet version w t m = clock_time_get t m w.a w.c
-
--- proc_exit(code)
-abbrev pub proc_exit : GuestTables → Linear → ℕ → Row GuestTables
-proc_exit t m code replies = Gives (record { answer = Code code; tables = t; memory = m }) replies
+abbrev pub asking_row : AskingCall → Words → HttpAndCache → Linear → Row HttpAndCache
+asking_row asking.Lookup w t m = cache_lookup t m w.a w.b w.c w.d w.e
+asking_row asking.Insert w t m = cache_insert t m w.a w.b w.c w.d w.e
+asking_row asking.TransactionLookup w t m = cache_transaction_lookup t m w.a w.b w.c w.d w.e
+asking_row asking.BusyHandleWait w t m = cache_cache_busy_handle_wait t m w.a w.b
+asking_row asking.TransactionInsert w t m = cache_transaction_insert t m w.a w.b w.c w.d
+asking_row asking.TransactionInsertAndStreamBack w t m = cache_transaction_insert_and_stream_back t m w.a w.b w.c w.d w.e
+asking_row asking.TransactionUpdate w t m = cache_transaction_update t m w.a w.b w.c
+asking_row asking.TransactionCancel w t m = cache_transaction_cancel t m w.a
+asking_row asking.Close w t m = cache_close t m w.a
+asking_row asking.PurgeSurrogateKey w t m = purge_purge_surrogate_key t m w.a w.b w.c
 
 -- ---- all calls that stand
 
 -- what a row on some of the tables comes to, among all of them
-abbrev pub with_http : GuestTables → Told (After HttpTables) → Told (After GuestTables)
-with_http t (Wants call) = Wants call
-with_http t (Gives after replies) = Gives (record { answer = after.answer; tables = record t { http = after.tables }; memory = after.memory }) replies
+abbrev pub among : {T : Type 0} → (T → GuestTables) → Told (After T) → Told (After GuestTables)
+among put (Wants call) = Wants call
+among put (Gives after replies) = Gives (record { answer = after.answer; tables = put after.tables; memory = after.memory }) replies
+
+-- all tables with these, and a row on them
+abbrev pub with_http : GuestTables → HttpTables → GuestTables
+with_http t http = record t { http = http }
 
 abbrev pub on_http : (HttpTables → Linear → Row HttpTables) → GuestTables → Linear → Row GuestTables
-on_http row t m replies = with_http t (row t.http m replies)
+on_http row t m replies = among (with_http t) (row t.http m replies)
+
+abbrev pub with_stores : GuestTables → StoreTables → GuestTables
+with_stores t stores = record t { stores = stores }
+
+abbrev pub on_stores : (StoreTables → Linear → Row StoreTables) → GuestTables → Linear → Row GuestTables
+on_stores row t m replies = among (with_stores t) (row t.stores m replies)
+
+abbrev pub with_cache : GuestTables → HttpAndCache → GuestTables
+with_cache t these = record t { http = these.http; cache = these.cache }
+
+abbrev pub on_cache : (HttpAndCache → Linear → Row HttpAndCache) → GuestTables → Linear → Row GuestTables
+on_cache row t m replies = among (with_cache t) (row (both t.http t.cache) m replies)
+
+-- the row of a call with these arguments, and the version that it may have
+abbrev pub started : RowCall → ℕ → Words → GuestTables → Linear → Row GuestTables
+started (Http call) version w t m = on_http (http_row call w) t m
+started (Parts call) version w t m = on_http (parts_row call t.request w) t m
+started (Store call) version w t m = on_stores (λ stores memory. store_row call version w stores t.settings memory) t m
+started (Wasi call) version w t m = on_stores (wasi_row call w) t m
+started (Outside call) version w t m = on_stores (outside_row call w) t m
+started (Handle call) version w t m = on_cache (handle_row call w) t m
+started (Asking call) version w t m = on_cache (asking_row call w) t m
 
 abbrev pub called : RowCall → List Value → GuestTables → Linear → Row GuestTables
-called (Http call) a t m = on_http (http_row call (words_of a)) t m
-called (Parts call) a t m = on_http (parts_row call t.request (words_of a)) t m
-called (Own call) a t m = own_row call (long a 0) (words_of a) t m
+called call a t m = started call (long a 0) (words_of a) t m
+
+-- proc_exit(code)
+abbrev pub exited : ℕ → GuestTables → Linear → Row GuestTables
+exited code t m = on_stores (λ stores memory. wasi_proc_exit stores memory code) t m
 
 abbrev pub row_of : Call → List Value → GuestTables → Linear → Row GuestTables
-row_of calls.Exit a t m = proc_exit t m (word a 0)
+row_of calls.Exit a t m = exited (word a 0) t m
 row_of (calls.Row call) a t m = called call a t m
 
--- what a guest has when it begins to answer a request
-abbrev pub first_tables : Request → List ℕ → GuestTables
-first_tables head bytes = record {
+-- What a guest has when it begins to answer a request: its random words are those of the service's seed, in the stream with its
+-- index.
+abbrev pub first_tables : Settings → List ℕ → ℕ → Request → List ℕ → GuestTables
+first_tables settings random index head bytes = record {
   http = record { requests = []; responses = []; bodies = []; head = Some head; body = Some bytes; answered = false };
+  cache = record { handles = []; busy = [] };
+  stores = record { dictionaries = []; configs = []; stores = []; secrets = []; endpoints = []; random = record { key = key_of random; stream = index; word_pos = 0 } };
+  settings = settings;
   request = head;
 }

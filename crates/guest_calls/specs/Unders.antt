@@ -5,15 +5,18 @@ use Rattle.edge_abi.specs.declared.asked.Step.{Step}
 use Rattle.edge_abi.specs.declared.asked.Step.TheVariants.{Done, Outer}
 use Rattle.edge_abi.specs.Told.{Row}
 use Rattle.body_calls.specs.UnderWays as parts
+use Rattle.edge_stores.specs.UnderWays as stores
+use Rattle.cache_calls.specs.Replies as cache
 use Rattle.guest_calls.specs.declared.rows.Under.{Under}
-use Rattle.guest_calls.specs.declared.rows.Under.TheVariants.{Parts, Clock}
+use Rattle.guest_calls.specs.declared.rows.Under.TheVariants.{Parts, Store, Cache}
 use Rattle.guest_calls.specs.declared.tables.GuestTables.{GuestTables}
-use Rattle.guest_calls.specs.Rows.{on_http, clocked}
+use Rattle.guest_calls.specs.Rows.{on_http, on_stores, on_cache}
 
 -- each goes on as its own crate says
 abbrev pub resumed : Under → GuestTables → Linear → OuterReply → Row GuestTables
-resumed (Parts under) t m reply = on_http (λ http memory. parts.resumed under http memory reply) t m
-resumed (Clock place) t m reply = clocked t m place reply
+resumed (Parts under) t m reply = on_http (λ these memory. parts.resumed under these memory reply) t m
+resumed (Store under) t m reply = on_stores (λ these memory. stores.resumed under these memory reply) t m
+resumed (Cache under) t m reply = on_cache (λ these memory. cache.resumed under these memory reply) t m
 
 -- a step of some rows, among all of them
 abbrev pub step_among : {U : Type 0} → (U → Under) → Step U → Step Under

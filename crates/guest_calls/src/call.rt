@@ -70,13 +70,65 @@ pub enum PartsCall {
     SendDownstream,
 }
 
-/// A call that needs no table of the guest.
+/// A call on versions, stores and log endpoints that makes no outer call.
 #[derive(Clone, Copy, Debug, PartialEq, Eq)]
-pub enum OwnCall {
-    /// `init` of `fastly_abi`.
+pub enum StoreCall {
     Init,
-    /// `clock_time_get` of WASI.
+    DictionaryOpen,
+    DictionaryGet,
+    ConfigStoreOpen,
+    ConfigStoreGet,
+    SecretStoreOpen,
+    SecretStoreGet,
+    SecretStorePlaintext,
+    LogEndpointGet,
+}
+
+/// A call of WASI that makes no outer call.
+#[derive(Clone, Copy, Debug, PartialEq, Eq)]
+pub enum WasiCall {
+    RandomGet,
+    EnvironSizesGet,
+    ArgsSizesGet,
+    EnvironGet,
+    ArgsGet,
+}
+
+/// A call that logs a line or reads a clock.
+#[derive(Clone, Copy, Debug, PartialEq, Eq)]
+pub enum OutsideCall {
+    LogWrite,
+    FdWrite,
     ClockTimeGet,
+}
+
+/// A call of `fastly_cache` that asks the cache nothing.
+#[derive(Clone, Copy, Debug, PartialEq, Eq)]
+pub enum HandleCall {
+    TransactionLookupAsync,
+    CloseBusy,
+    GetState,
+    GetUserMetadata,
+    GetLength,
+    GetMaxAgeNs,
+    GetStaleWhileRevalidateNs,
+    GetAgeNs,
+    GetBody,
+}
+
+/// A call that asks the cache: the others of `fastly_cache`, and that of `fastly_purge`.
+#[derive(Clone, Copy, Debug, PartialEq, Eq)]
+pub enum AskingCall {
+    Lookup,
+    Insert,
+    TransactionLookup,
+    BusyHandleWait,
+    TransactionInsert,
+    TransactionInsertAndStreamBack,
+    TransactionUpdate,
+    TransactionCancel,
+    Close,
+    PurgeSurrogateKey,
 }
 
 /// A call that answers a number, by the crate that has its row.
@@ -84,7 +136,11 @@ pub enum OwnCall {
 pub enum RowCall {
     Http(HttpCall),
     Parts(PartsCall),
-    Own(OwnCall),
+    Store(StoreCall),
+    Wasi(WasiCall),
+    Outside(OutsideCall),
+    Handle(HandleCall),
+    Asking(AskingCall),
 }
 
 /// A call whose code stands.
@@ -95,10 +151,34 @@ pub enum Call {
     Row(RowCall),
 }
 
-fn own(call: OwnCall) -> Option<Call>
-    ensures { result ≡ Some (Call.Row (RowCall.Own call)) }
+fn store(call: StoreCall) -> Option<Call>
+    ensures { result ≡ Some (Call.Row (RowCall.Store call)) }
 {
-    Some(Call::Row(RowCall::Own(call)))
+    Some(Call::Row(RowCall::Store(call)))
+}
+
+fn wasi(call: WasiCall) -> Option<Call>
+    ensures { result ≡ Some (Call.Row (RowCall.Wasi call)) }
+{
+    Some(Call::Row(RowCall::Wasi(call)))
+}
+
+fn outside(call: OutsideCall) -> Option<Call>
+    ensures { result ≡ Some (Call.Row (RowCall.Outside call)) }
+{
+    Some(Call::Row(RowCall::Outside(call)))
+}
+
+fn handle(call: HandleCall) -> Option<Call>
+    ensures { result ≡ Some (Call.Row (RowCall.Handle call)) }
+{
+    Some(Call::Row(RowCall::Handle(call)))
+}
+
+fn asking(call: AskingCall) -> Option<Call>
+    ensures { result ≡ Some (Call.Row (RowCall.Asking call)) }
+{
+    Some(Call::Row(RowCall::Asking(call)))
 }
 
 fn http(call: HttpCall) -> Option<Call>
@@ -148,7 +228,7 @@ pub fn standing(call: Hostcall) -> Option<Call>
     ensures { result ≡ standing call }
 {
     match call {
-        Hostcall::AbiInit => own(OwnCall::Init),
+        Hostcall::AbiInit => store(StoreCall::Init),
         Hostcall::BodyNew => body(BodyCall::New),
         Hostcall::BodyAppend => parts(PartsCall::Append),
         Hostcall::BodyRead => parts(PartsCall::Read),
@@ -186,8 +266,43 @@ pub fn standing(call: Hostcall) -> Option<Call>
         Hostcall::ResponseStatusGet => response(ResponseCall::StatusGet),
         Hostcall::ResponseStatusSet => response(ResponseCall::StatusSet),
         Hostcall::ResponseSendDownstream => parts(PartsCall::SendDownstream),
+        Hostcall::DictionaryOpen => store(StoreCall::DictionaryOpen),
+        Hostcall::DictionaryGet => store(StoreCall::DictionaryGet),
+        Hostcall::ConfigStoreOpen => store(StoreCall::ConfigStoreOpen),
+        Hostcall::ConfigStoreGet => store(StoreCall::ConfigStoreGet),
+        Hostcall::SecretStoreOpen => store(StoreCall::SecretStoreOpen),
+        Hostcall::SecretStoreGet => store(StoreCall::SecretStoreGet),
+        Hostcall::SecretStorePlaintext => store(StoreCall::SecretStorePlaintext),
+        Hostcall::LogEndpointGet => store(StoreCall::LogEndpointGet),
+        Hostcall::LogWrite => outside(OutsideCall::LogWrite),
+        Hostcall::CacheLookup => asking(AskingCall::Lookup),
+        Hostcall::CacheInsert => asking(AskingCall::Insert),
+        Hostcall::CacheTransactionLookup => asking(AskingCall::TransactionLookup),
+        Hostcall::CacheTransactionLookupAsync => handle(HandleCall::TransactionLookupAsync),
+        Hostcall::CacheBusyHandleWait => asking(AskingCall::BusyHandleWait),
+        Hostcall::CacheCloseBusy => handle(HandleCall::CloseBusy),
+        Hostcall::CacheTransactionInsert => asking(AskingCall::TransactionInsert),
+        Hostcall::CacheTransactionInsertAndStreamBack => asking(
+            AskingCall::TransactionInsertAndStreamBack,
+        ),
+        Hostcall::CacheTransactionUpdate => asking(AskingCall::TransactionUpdate),
+        Hostcall::CacheTransactionCancel => asking(AskingCall::TransactionCancel),
+        Hostcall::CacheClose => asking(AskingCall::Close),
+        Hostcall::CacheGetState => handle(HandleCall::GetState),
+        Hostcall::CacheGetUserMetadata => handle(HandleCall::GetUserMetadata),
+        Hostcall::CacheGetLength => handle(HandleCall::GetLength),
+        Hostcall::CacheGetMaxAgeNs => handle(HandleCall::GetMaxAgeNs),
+        Hostcall::CacheGetStaleWhileRevalidateNs => handle(HandleCall::GetStaleWhileRevalidateNs),
+        Hostcall::CacheGetAgeNs => handle(HandleCall::GetAgeNs),
+        Hostcall::CacheGetBody => handle(HandleCall::GetBody),
+        Hostcall::PurgeSurrogateKey => asking(AskingCall::PurgeSurrogateKey),
         Hostcall::WasiProcExit => Some(Call::Exit),
-        Hostcall::WasiClockTimeGet => own(OwnCall::ClockTimeGet),
-        _ => None,
+        Hostcall::WasiFdWrite => outside(OutsideCall::FdWrite),
+        Hostcall::WasiRandomGet => wasi(WasiCall::RandomGet),
+        Hostcall::WasiClockTimeGet => outside(OutsideCall::ClockTimeGet),
+        Hostcall::WasiEnvironSizesGet => wasi(WasiCall::EnvironSizesGet),
+        Hostcall::WasiArgsSizesGet => wasi(WasiCall::ArgsSizesGet),
+        Hostcall::WasiEnvironGet => wasi(WasiCall::EnvironGet),
+        Hostcall::WasiArgsGet => wasi(WasiCall::ArgsGet),
     }
 }

@@ -1,26 +1,28 @@
-//! The calls of guests whose code stands, each by the row of the table of calls that it is: how it is started, and how it
-//! goes on behind the reply to its outer call.
+//! The calls of guests, each by the row of the table of calls that it is: how it is started, and how it goes on behind the
+//! reply to its outer call.
 //!
-//! `Call` has the calls that stand, and no others: those of `fastly_http_req` and `fastly_http_resp` but the ones to backends
-//! and `send_downstream`; `new` and `known_length` of bodies; `init`, `clock_time_get` and `proc_exit`. `standing` tells of
-//! each other call that it doesn't stand yet. Nothing here answers a call that doesn't stand: there is no `Call` for it.
+//! `Call` has the calls whose code stands, and `standing` tells which of the calls that a module may import these are. Each is
+//! a row of one of the crates below; nothing is answered here but by them. What a row may ask is never a link.
 //!
 //! A further crate of rows is one case of `RowCall` with its arm in `row`, and, where its rows make outer calls, one case of
 //! `Under` with its arm in `goes_on`.
 #![tactic(auto)]
 
+mod cache;
 mod call;
+mod heard;
 mod http;
-mod own;
 mod parts;
 mod rows;
+mod steps;
+mod stores;
 mod tables;
 mod words;
 
 pub use call::{
-    BodyCall, Call, HeaderCall, HttpCall, OwnCall, PartsCall, RequestCall, ResponseCall, RowCall,
-    standing,
+    AskingCall, BodyCall, Call, HandleCall, HeaderCall, HttpCall, OutsideCall, PartsCall,
+    RequestCall, ResponseCall, RowCall, StoreCall, WasiCall, standing,
 };
 pub use rows::{GuestStep, Under, goes_on, row};
-pub use tables::GuestTables;
+pub use tables::{GuestTables, SharedSettings};
 pub use words::word;

@@ -3,43 +3,34 @@ ghost use Rattle.std.specs.Prelude.{◌≡◌, IfOk};
 ghost use Rattle.edge_abi.specs.Goes.{Goes};
 ghost use Rattle.body_calls.specs.Links.{IsUnlinked};
 ghost use Rattle.guest_calls.specs.Rows.{called};
-ghost use Rattle.guest_calls.specs.declared.rows.Under.TheVariants as under;
-ghost use Rattle.guest_calls.specs.Unders.{resumed, step_among};
+ghost use Rattle.guest_calls.specs.Unders.{resumed};
 
 use crate::call::RowCall;
-use crate::http::http_row;
-use crate::own::{clocked, own_row};
-use crate::parts::parts_row;
+use crate::heard::{cache_heard, parts_heard, store_heard};
+use crate::steps::{
+    asking_step, handle_step, http_step, outside_step, parts_step, store_step, wasi_step,
+};
 use crate::tables::GuestTables;
 use crate::words::{long, words_of};
-use body_calls::{BodyStep, UnderWay, resumed as parts_reply};
+use body_calls::UnderWay as PartsUnder;
+use cache_calls::UnderWay as CacheUnder;
 use cache_types::OuterReply;
 use edge_abi::Step;
+use edge_stores::UnderWay as StoreUnder;
 use std::alloc::{AllocError, Global};
 use wasm_memory::Memory;
 use wasm_types::Value;
 
-/// A row that waits for the reply to its outer call.
+/// A row that waits for the reply to its outer call, by its crate.
 #[derive(Drop)]
 pub enum Under {
-    /// A row on the parts of bodies.
-    Parts(UnderWay),
-    /// A clock is read; its reading is told at the place.
-    Clock { place: u32 },
+    Parts(PartsUnder),
+    Store(StoreUnder),
+    Cache(CacheUnder),
 }
 
 /// What a row has come to.
 pub type GuestStep = Step<Under>;
-
-fn of_parts(step: BodyStep) -> GuestStep
-    ensures step { result ≡ step_among under.Parts step }
-    ensures unlinked { IsUnlinked step → IsUnlinked result }
-{
-    match step {
-        Step::Done(number) => Step::Done(number),
-        Step::Outer(call, under) => Step::Outer(call, Under::Parts(under)),
-    }
-}
 
 /// Starts the row of a call.
 pub fn row(
@@ -52,27 +43,16 @@ pub fn row(
     ensures row { IfOk result (λ step. Goes resumed (called call arguments.now tables.old memory.old) step tables.new memory.new) }
     ensures unlinked { IfOk result IsUnlinked }
 {
+    let version = long(arguments, 0);
+    let words = words_of(arguments);
     match call {
-        RowCall::Http(call) => {
-            let status = http_row(alloc, call, words_of(arguments), &mut tables.http, memory)?;
-            Ok(Step::Done(status.number()))
-        }
-        RowCall::Parts(call) => {
-            let words = words_of(arguments);
-            let step = parts_row(
-                alloc,
-                call,
-                words,
-                &tables.request,
-                &mut tables.http,
-                memory,
-            )?;
-            Ok(of_parts(step))
-        }
-        RowCall::Own(call) => {
-            let version = long(arguments, 0);
-            Ok(own_row(call, version, words_of(arguments), tables, memory))
-        }
+        RowCall::Http(call) => http_step(alloc, call, words, tables, memory),
+        RowCall::Parts(call) => parts_step(alloc, call, words, tables, memory),
+        RowCall::Store(call) => store_step(alloc, call, version, words, tables, memory),
+        RowCall::Wasi(call) => wasi_step(alloc, call, words, tables, memory),
+        RowCall::Outside(call) => outside_step(alloc, call, words, tables, memory),
+        RowCall::Handle(call) => handle_step(alloc, call, words, tables, memory),
+        RowCall::Asking(call) => asking_step(alloc, call, words, tables, memory),
     }
 }
 
@@ -88,10 +68,8 @@ pub fn goes_on(
     ensures unlinked { IfOk result IsUnlinked }
 {
     match under {
-        Under::Parts(under) => {
-            let step = parts_reply(alloc, &mut tables.http, memory, under, reply)?;
-            Ok(of_parts(step))
-        }
-        Under::Clock { place } => Ok(clocked(tables, memory, place, reply)),
+        Under::Parts(under) => parts_heard(alloc, tables, memory, under, reply),
+        Under::Store(under) => Ok(store_heard(tables, memory, under, reply)),
+        Under::Cache(under) => cache_heard(alloc, tables, memory, under, reply),
     }
 }

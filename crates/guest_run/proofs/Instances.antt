@@ -93,11 +93,11 @@ same_calls : (cs ds : List Call) → Some cs ≡ Some ds → cs ≡ ds
 same_calls cs ds e = cc
 
 -- a guest before its Begin
-pub fresh_begins : (l : LinkedModule) (service : Service) (head : Request) (body : List ℕ) (program : Program) → IsServiceOf l service → (h : IsGuestProgram l service.fuel head body program) → (reply : OuterReply) → IsBeginning service (first_tables head body) (λ replies. program (reply ∷ replies))
-fresh_begins l service head body program is h reply = record {
+pub fresh_begins : (l : LinkedModule) (service : Service) (index : ℕ) (head : Request) (body : List ℕ) (program : Program) → IsServiceOf l service → (h : IsGuestProgram l service.settings.now service.fuel service.random index head body program) → (reply : OuterReply) → IsBeginning service (first_tables service.settings.now service.random index head body) (λ replies. program (reply ∷ replies))
+fresh_begins l service index head body program is h reply = record {
   of = l;
   is_service = is;
   origin = h.origin;
   begins = h.begins;
-  goes = λ replies. h.does (reply ∷ replies) ∙ ap (λ (cs : List Call). behind_begin h.origin cs service.fuel (first_tables head body) replies) (same_calls h.calls service.calls.items (sym h.calls_are ∙ is.calls));
+  goes = λ replies. h.does (reply ∷ replies) ∙ ap (λ (cs : List Call). behind_begin h.origin cs service.fuel (first_tables service.settings.now service.random index head body) replies) (same_calls h.calls service.calls.items (sym h.calls_are ∙ is.calls));
 }

@@ -4,6 +4,7 @@ use Rattle.cache_types.specs.declared.outer.OuterReply.{OuterReply}
 use Rattle.edge_body.specs.Heads.{Request}
 use Rattle.edge_imports.specs.declared.hostcall.Hostcall.{Hostcall}
 use Rattle.edge_imports.specs.Links.{LinkedModule, linked}
+use Rattle.fastly_toml.specs.declared.settings.Settings.{Settings}
 use Rattle.module_machine.specs.Shared.{IsImage}
 use Rattle.player.specs.Plays.{Program}
 use Rattle.guest_calls.specs.declared.call.Call.{Call}
@@ -30,6 +31,13 @@ fuel_in service = service.fuel
 abbrev pub limit_in : Service → ℕ
 limit_in service = service.limit
 
+-- the settings that its guests read, and the seed of their random words
+abbrev pub settings_in : Service → Settings
+settings_in service = service.settings.now
+
+abbrev pub random_in : Service → List ℕ
+random_in service = service.random
+
 -- the service of a linked module, whose calls stand
 pub record IsServiceOf (l : LinkedModule) (service : Service) : Type 0 where
   pub same : service.linked.now ≡ l
@@ -42,10 +50,10 @@ abbrev pub IsCallsFault : List Hostcall → ServiceFault → Type 0
 IsCallsFault calls NotStanding = calls_of calls ≡ None
 IsCallsFault calls OutOfMemory = Unit {0}
 
--- the program of a guest: by the module, its calls, the fuel and the request alone
-pub record IsGuestProgram (l : LinkedModule) (fuel : ℕ) (head : Request) (body : List ℕ) (program : Program) : Type 0 where
+-- the program of a guest: by the module, its calls, the settings, the fuel, the seed, the guest's index and the request alone
+pub record IsGuestProgram (l : LinkedModule) (settings : Settings) (fuel : ℕ) (random : List ℕ) (index : ℕ) (head : Request) (body : List ℕ) (program : Program) : Type 0 where
   pub calls : List Call
   pub calls_are : calls_of l.links.calls ≡ Some calls
   pub origin : Origin
   pub begins : IsOrigin l.whole l.links.start origin
-  pub does : (replies : List OuterReply) → program replies ≡ next origin calls fuel (first_tables head body) replies
+  pub does : (replies : List OuterReply) → program replies ≡ next origin calls fuel (first_tables settings random index head body) replies

@@ -2,7 +2,7 @@
 ghost use Rattle.std.specs.Prelude.{◌≡◌, [], None, false, IfOk};
 ghost use Rattle.edge_imports.specs.Links.{LinkedModule};
 ghost use Rattle.player.specs.Plays.{Program};
-ghost use Rattle.guest_run.specs.Services.{fuel_in, limit_in, IsServiceOf, IsGuestProgram};
+ghost use Rattle.guest_run.specs.Services.{fuel_in, limit_in, settings_in, random_in, IsServiceOf, IsGuestProgram};
 ghost use Rattle.guest_run.specs.Guests.{index_of, request_of, limit_of, stopped_of, ended_of, GuestPlays, GuestWants, waits_in, is_over_in};
 
 use crate::phase::{Phase, set};
@@ -21,7 +21,7 @@ pub struct Guest<'a> {
     pub(crate) alloc: Global,
     pub(crate) service: &'a Service<'a>,
     pub(crate) index: u64,
-    pub(crate) tables: GuestTables,
+    pub(crate) tables: GuestTables<'a>,
     /// Where its code stands, once its instance is made.
     pub(crate) machine: Option<Machine<'a>>,
     pub(crate) phase: Phase,
@@ -42,14 +42,14 @@ impl<'a> Guest<'a> {
         head: RequestHead,
         body: Octets,
     ) -> Result<Guest<'a>, AllocError>
-        ensures plays { IfOk result (λ guest. (l : LinkedModule) (program : Program) → IsServiceOf l service.now → IsGuestProgram l (fuel_in service.now) head body program → GuestPlays guest program []) }
+        ensures plays { IfOk result (λ guest. (l : LinkedModule) (program : Program) → IsServiceOf l service.now → IsGuestProgram l (settings_in service.now) (fuel_in service.now) (random_in service.now) index head body program → GuestPlays guest program []) }
         ensures stopped { IfOk result (λ guest. stopped_of guest ≡ None) }
         ensures ended { IfOk result (λ guest. ended_of guest ≡ false) }
         ensures index { IfOk result (λ guest. index_of guest ≡ index) }
         ensures request { IfOk result (λ guest. request_of guest ≡ head) }
         ensures limit { IfOk result (λ guest. limit_of guest ≡ limit_in service.now) }
     {
-        let tables = GuestTables::new(alloc, head, body)?;
+        let tables = GuestTables::new(alloc, service.settings, service.random, index, head, body)?;
         let events = Vec::new(alloc);
         Ok(Guest {
             alloc,

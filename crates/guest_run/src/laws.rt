@@ -9,13 +9,13 @@ ghost use Rattle.guest_calls.specs.declared.call.Call.{Call as ACall};
 ghost use Rattle.guest_calls.specs.declared.tables.GuestTables.{GuestTables as Tables};
 ghost use Rattle.guest_run.specs.declared.service.Service.{Service as AService};
 ghost use Rattle.guest_run.specs.Next.{live};
-ghost use Rattle.guest_run.specs.Services.{fuel_in, IsServiceOf, IsGuestProgram};
+ghost use Rattle.guest_run.specs.Services.{fuel_in, settings_in, random_in, IsServiceOf, IsGuestProgram};
 
 use wasm_sound::valid_modules_start_typed;
 
 /// Each guest of a service has a program: the code of a linked module begins somewhere, or its instance is a trap.
 pub fn each_guest_has_a_program()
-    ensures { (l : LinkedModule) (service : AService) (head : Request) (body : List ℕ) → IsServiceOf l service → (program : Program) × IsGuestProgram l (fuel_in service) head body program }
+    ensures { (l : LinkedModule) (service : AService) (index : ℕ) (head : Request) (body : List ℕ) → IsServiceOf l service → (program : Program) × IsGuestProgram l (settings_in service) (fuel_in service) (random_in service) index head body program }
 {
     valid_modules_start_typed();
 }

@@ -3,21 +3,25 @@ ghost use Rattle.std.specs.Prelude.{◌≡◌, Ok, Some, IfOk, IfErr};
 ghost use Rattle.edge_imports.specs.Links as linking;
 ghost use Rattle.module_machine.specs.Shared.{IsPrepared};
 ghost use Rattle.guest_run.specs.declared.service.ServiceFault.TheVariants.{OutOfMemory};
-ghost use Rattle.guest_run.specs.Services.{calls_of, fuel_in, limit_in, IsCallsFault, IsServiceOf};
+ghost use Rattle.guest_run.specs.Services.{calls_of, fuel_in, limit_in, settings_in, random_in, IsCallsFault, IsServiceOf};
 
 use edge_imports::{Hostcall, Linked, Links, links_of};
+use fastly_toml::Settings;
 use guest_calls::{Call, standing};
 use module_machine::{Image, Prepared};
 use std::alloc::{AllocError, AllocFailed, Global};
 
-/// A module that runs here, with the fuel of each of its guests, in instructions, and the limit of each in nanoseconds.
+/// A module that runs here, with the settings that its guests read, the fuel of each of them, in instructions, the limit of
+/// each in nanoseconds, and the seed of their random words.
 #[derive(Drop)]
 pub struct Service<'a> {
     pub(crate) linked: &'a Linked,
     pub(crate) image: Image<'a>,
     pub(crate) calls: Vec<Call>,
+    pub(crate) settings: &'a Settings,
     pub(crate) fuel: u64,
     pub(crate) limit: u64,
+    pub(crate) random: [u8; 32],
 }
 
 /// Why there is no service of a module.
@@ -82,14 +86,18 @@ impl<'a> Service<'a> {
         alloc: Global,
         linked: &'a Linked,
         prepared: &'a Prepared,
+        settings: &'a Settings,
         fuel: u64,
         limit: u64,
+        random: [u8; 32],
     ) -> Result<Service<'a>, ServiceFault>
         requires linked { linking.linked linked.now.whole ≡ Ok linked.now.links }
         requires prepared { IsPrepared linked.now.whole prepared.now }
         ensures made { IfOk result (IsServiceOf linked.now) }
         ensures fuel { IfOk result (λ service. fuel_in service ≡ fuel) }
         ensures limit { IfOk result (λ service. limit_in service ≡ limit) }
+        ensures settings { IfOk result (λ service. settings_in service ≡ settings.now) }
+        ensures random { IfOk result (λ service. random_in service ≡ random) }
         ensures fault { IfErr result (IsCallsFault linked.now.links.calls) }
     {
         let links = links_of_linked(alloc, linked)?;
@@ -99,8 +107,10 @@ impl<'a> Service<'a> {
             linked,
             image,
             calls,
+            settings,
             fuel,
             limit,
+            random,
         })
     }
 }

@@ -1,7 +1,10 @@
-use Rattle.body_calls.specs.UnderWays as parts
-use Rattle.guest_calls.proofs.OnHttp.{goes_parts}
 use Rattle.guest_calls.proofs.rows.goes_on.Goals as goal
 
-pub returns-in_ok-step-in-Parts-clause-row : goal.returns-in_ok-step-in-Parts-clause-row
-returns-in_ok-step-in-Parts-clause-row c =
-    rw (c.in-Parts.is, c.of_parts.ensures.step) (goes_parts (λ http memory. parts.resumed c.in-Parts.under http memory c.args.reply.now) c.args.tables.now c.args.memory.now c.resumed.new.tables c.resumed.new.memory c.in_ok-step-in-Parts.step c.in_ok-step-in-Parts.ensures.row)
+pub returns-in-Parts-clause-row : goal.returns-in-Parts-clause-row
+returns-in-Parts-clause-row c = rw c.in-Parts.is c.parts_heard.ensures.row
+
+pub returns-in-Store-clause-row : goal.returns-in-Store-clause-row
+returns-in-Store-clause-row c = rw c.in-Store.is c.store_heard.ensures.row
+
+pub returns-in-Cache-clause-row : goal.returns-in-Cache-clause-row
+returns-in-Cache-clause-row c = rw c.in-Cache.is c.cache_heard.ensures.row

@@ -9,7 +9,7 @@ returns-clause-plays c = λ l program is begins. record {
     stopped = refl;
     ended = refl;
     begins = begins.does [];
-    beginning = λ reply. rw c.in_ok-tables.ensures (fresh_begins l c.args.service.now c.args.head c.args.body program is begins reply);
+    beginning = λ reply. rw c.in_ok-tables.ensures (fresh_begins l c.args.service.now c.args.index c.args.head c.args.body program is begins reply);
   };
   events = search rules;
   room = search rules;
