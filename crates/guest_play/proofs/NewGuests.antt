@@ -1,43 +1,43 @@
 -- Guests of requests, one more, and how many there are.
-use Rattle.std.specs.Prelude.{◌≡◌, ℕ, ◌<◌, suc, zero, Bool, false, List, [], ◌∷◌, ◌++◌, length, take, Option, None, refl}
+use Rattle.std.specs.Prelude.{◌≡◌, ℕ, ◌<◌, ◌+◌, suc, zero, Bool, false, List, [], ◌∷◌, ◌++◌, length, take, Option, None, refl}
 use Rattle.std.specs.List.{slice_index_or}
 use Rattle.std.proofs.Common.{arith, ap, subst, sym}
 use Rattle.cache_types.specs.declared.outer.Outcome.{Outcome}
 use Rattle.http_front.specs.declared.heads.Incoming.{Incoming}
-use Rattle.edge_body.specs.Heads.{Request}
-use Rattle.edge_imports.specs.Links.{LinkedModule}
 use Rattle.player.specs.Plays.{Program, Answered}
 use Rattle.schedule_play.specs.Sits.{AreNew}
-use Rattle.guest_run.specs.Services.{IsGuestProgram}
-use Rattle.guest_play.specs.Guests.{AreGuestPrograms}
+use Rattle.guest_play.specs.Guests.{EachIs}
 
 -- each request has a program
-pub programs-exist : (l : LinkedModule) (fuel : ℕ) → ((head : Request) (body : List ℕ) → (program : Program) × IsGuestProgram l fuel head body program) → (requests : List Incoming) → (programs : List Program) × AreGuestPrograms l fuel requests programs
-programs-exist l fuel each [] = ([], tt)
-programs-exist l fuel each (request ∷ requests) =
-    let first = each request.head request.body in
-    let rest = programs-exist l fuel each requests in
+pub programs-exist : (Is : ℕ → Incoming → Program → Type 0) → ((index : ℕ) (request : Incoming) → (program : Program) × Is index request program) → (index : ℕ) (requests : List Incoming) → (programs : List Program) × EachIs Is index requests programs
+programs-exist Is each index [] = ([], tt)
+programs-exist Is each index (request ∷ requests) =
+    let first = each index request in
+    let rest = programs-exist Is each (index + 1) requests in
     (first.0 ∷ rest.0, (first.1, rest.1))
 
-pub programs-count : (l : LinkedModule) (fuel : ℕ) (requests : List Incoming) (programs : List Program) → AreGuestPrograms l fuel requests programs → length programs ≡ length requests
-programs-count l fuel [] [] are = refl
-programs-count l fuel [] (program ∷ programs) are = absurd are
-programs-count l fuel (request ∷ requests) [] are = absurd are
-programs-count l fuel (request ∷ requests) (program ∷ programs) are = let rest = programs-count l fuel requests programs are.1 in omega (arith, rest)
+pub programs-count : (Is : ℕ → Incoming → Program → Type 0) (index : ℕ) (requests : List Incoming) (programs : List Program) → EachIs Is index requests programs → length programs ≡ length requests
+programs-count Is index [] [] are = refl
+programs-count Is index [] (program ∷ programs) are = absurd are
+programs-count Is index (request ∷ requests) [] are = absurd are
+programs-count Is index (request ∷ requests) (program ∷ programs) are = let rest = programs-count Is (index + 1) requests programs are.1 in omega (arith, rest)
 
 -- the program at a place is that of the request there
-pub record IsAt (l : LinkedModule) (fuel : ℕ) (request : Incoming) (programs : List Program) (i : ℕ) : Type 0 where
+pub record IsAt (Is : ℕ → Incoming → Program → Type 0) (index : ℕ) (request : Incoming) (programs : List Program) (i : ℕ) : Type 0 where
   pub program : Program
-  pub is : IsGuestProgram l fuel request.head request.body program
+  pub is : Is (index + i) request program
   pub taken : take (suc i) programs ≡ take i programs ++ program ∷ []
 
-pub program-at : (l : LinkedModule) (fuel : ℕ) (requests : List Incoming) (programs : List Program) (i : ℕ) (request : Incoming) → AreGuestPrograms l fuel requests programs → i < length requests → request ≡ slice_index_or requests i request → IsAt l fuel request programs i
-program-at l fuel [] programs i request are below is = absurd (omega (arith, below))
-program-at l fuel (first ∷ requests) [] i request are below is = absurd are
-program-at l fuel (first ∷ requests) (program ∷ programs) zero request are below is = record { program = program; is = subst (λ (r : Incoming). IsGuestProgram l fuel r.head r.body program) (sym is) are.0; taken = refl }
-program-at l fuel (first ∷ requests) (program ∷ programs) (suc i) request are below is =
-    let rest = program-at l fuel requests programs i request are.1 (omega (arith, below)) is in
-    record { program = rest.program; is = rest.is; taken = ap (λ (ps : List Program). program ∷ ps) rest.taken }
+pub program-at : (Is : ℕ → Incoming → Program → Type 0) (index : ℕ) (requests : List Incoming) (programs : List Program) (i : ℕ) (request : Incoming) → EachIs Is index requests programs → i < length requests → request ≡ slice_index_or requests i request → IsAt Is index request programs i
+program-at Is index [] programs i request are below is = absurd (omega (arith, below))
+program-at Is index (first ∷ requests) [] i request are below is = absurd are
+program-at Is index (first ∷ requests) (program ∷ programs) zero request are below is =
+    let here : index ≡ index + 0 = omega arith in
+    record { program = program; is = subst (λ (n : ℕ). Is n request program) here (subst (λ (r : Incoming). Is index r program) (sym is) are.0); taken = refl }
+program-at Is index (first ∷ requests) (program ∷ programs) (suc i) request are below is =
+    let rest = program-at Is (index + 1) requests programs i request are.1 (omega (arith, below)) is in
+    let next : index + 1 + i ≡ index + suc i = omega arith in
+    record { program = rest.program; is = subst (λ (n : ℕ). Is n request rest.program) next rest.is; taken = ap (λ (ps : List Program). program ∷ ps) rest.taken }
 
 -- new players, one more
 pub new-more : {P : Type 0} (Plays : P → Program → List Answered → Type 0) (stopped : P → Option Outcome) (ended : P → Bool) (players : List P) (programs : List Program) (player : P) (program : Program) → AreNew Plays stopped ended players programs → Plays player program [] → stopped player ≡ None → ended player ≡ false → AreNew Plays stopped ended (players ++ player ∷ []) (programs ++ program ∷ [])

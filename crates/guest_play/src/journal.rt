@@ -5,7 +5,7 @@ ghost use Rattle.edge_imports.specs.Links.{LinkedModule};
 ghost use Rattle.player.specs.Plays.{Program};
 ghost use Rattle.schedule_play.specs.Links.{Asks};
 ghost use Rattle.schedule_play.specs.Schedule.{are_steps_of};
-ghost use Rattle.guest_run.specs.Services.{fuel_in, IsServiceOf};
+ghost use Rattle.guest_run.specs.Services.{fuel_in, settings_in, random_in, IsServiceOf};
 ghost use Rattle.guest_play.specs.Guests.{AreGuestPrograms};
 ghost use Rattle.guest_play.specs.Journal.{IsGuestJournal};
 
@@ -30,7 +30,7 @@ pub fn guests_journal<S: OneCache + Drop, L: Link>(
     requires empty { S.history cache ≡ [] }
     requires service { (l : LinkedModule) × IsServiceOf l service.now }
     requires steps { IsTrue (are_steps_of (length requests.now) steps.now) }
-    ensures journal { (l : LinkedModule) (programs : List Program) → IsServiceOf l service.now → AreGuestPrograms l (fuel_in service.now) requests.now programs → IfOk result (IsGuestJournal (Asks L.starts L.polls L.waits L.chooses) (S.most cache) programs steps.now link.old link.new) }
+    ensures journal { (l : LinkedModule) (programs : List Program) → IsServiceOf l service.now → AreGuestPrograms l (settings_in service.now) (fuel_in service.now) (random_in service.now) requests.now programs → IfOk result (IsGuestJournal (Asks L.starts L.polls L.waits L.chooses) (S.most cache) programs steps.now link.old link.new) }
     ensures some { IfOk result (λ text. 0 < length text) }
 {
     each_guest_has_a_program();

@@ -8,7 +8,7 @@ ghost use Rattle.schedule_play.specs.Links.{Asks};
 ghost use Rattle.schedule_play.specs.Schedule.{are_steps_of};
 ghost use Rattle.schedule_play.specs.Blocks.{HasBlocks, keep_limits};
 ghost use Rattle.schedule_play.specs.Scheduled.{IsScheduled};
-ghost use Rattle.guest_run.specs.Services.{fuel_in, IsServiceOf};
+ghost use Rattle.guest_run.specs.Services.{fuel_in, settings_in, random_in, IsServiceOf};
 ghost use Rattle.guest_run.specs.Guests.{GuestWants};
 ghost use Rattle.guest_play.specs.Guests.{AreGuestPrograms};
 
@@ -35,8 +35,8 @@ pub fn play_guests<S: OneCache, L: Link>(
     requires service { (l : LinkedModule) × IsServiceOf l service.now }
     requires steps { IsTrue (are_steps_of (length requests.now) steps.now) }
     // The history and the blocks are those of the schedule of the guests' programs.
-    ensures schedule { (l : LinkedModule) (programs : List Program) → IsServiceOf l service.now → AreGuestPrograms l (fuel_in service.now) requests.now programs → IfOk result (λ blocks. IsScheduled (Asks L.starts L.polls L.waits L.chooses) GuestWants (S.most cache.old) programs steps.now link.old link.new (S.history cache.new) blocks.items) }
-    ensures blocks { (l : LinkedModule) (programs : List Program) → IsServiceOf l service.now → AreGuestPrograms l (fuel_in service.now) requests.now programs → IfOk result (λ blocks. HasBlocks (S.history cache.new) programs blocks.items) }
+    ensures schedule { (l : LinkedModule) (programs : List Program) → IsServiceOf l service.now → AreGuestPrograms l (settings_in service.now) (fuel_in service.now) (random_in service.now) requests.now programs → IfOk result (λ blocks. IsScheduled (Asks L.starts L.polls L.waits L.chooses) GuestWants (S.most cache.old) programs steps.now link.old link.new (S.history cache.new) blocks.items) }
+    ensures blocks { (l : LinkedModule) (programs : List Program) → IsServiceOf l service.now → AreGuestPrograms l (settings_in service.now) (fuel_in service.now) (random_in service.now) requests.now programs → IfOk result (λ blocks. HasBlocks (S.history cache.new) programs blocks.items) }
     ensures legal { OnOk result (IsLegal (S.history cache.new)) }
     ensures limits { OnOk result (IsTrue (keep_limits (S.history cache.new))) }
 {
