@@ -59,7 +59,7 @@ play_goes play fits =
 
 -- ---- line feeds
 
-requests_feed : (texts : List (List ℕ)) → AreBytes texts → list_all (lacks 10) (map request_text texts) ≡ true
+pub requests_feed : (texts : List (List ℕ)) → AreBytes texts → list_all (lacks 10) (map request_text texts) ≡ true
 requests_feed [] fits = refl
 requests_feed (text ∷ texts) fits = rw (request_law.feed text fits.0) (requests_feed texts fits.1)
 

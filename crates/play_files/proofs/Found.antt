@@ -40,7 +40,7 @@ pub record IsAt (bytes rest : List ℕ) (number : ℕ) (p : Progress) : Type 0 w
   pub stands : IsProgress p
 
 -- a cut takes the first line off
-cut_whole : (rest line after : List ℕ) → parts_at 10 rest ≡ line ∷ parts_at 10 after → (whole_lines rest ≡ line ∷ whole_lines after) × (after_lines rest ≡ after_lines after)
+pub cut_whole : (rest line after : List ℕ) → parts_at 10 rest ≡ line ∷ parts_at 10 after → (whole_lines rest ≡ line ∷ whole_lines after) × (after_lines rest ≡ after_lines after)
 cut_whole rest line after e =
     let more = not_last line (parts_at 10 after) (words_left 10 after) in
     (ap all_but_last e ∙ more.0, ap last_of e ∙ more.1)
@@ -53,7 +53,7 @@ all-append p (line ∷ front) back =
 
 -- ---- good requests stay good
 
-good_front : (texts more : List (List ℕ)) → AreRequestTexts (texts ++ more) → AreRequestTexts texts
+pub good_front : (texts more : List (List ℕ)) → AreRequestTexts (texts ++ more) → AreRequestTexts texts
 good_front [] more good = tt
 good_front (text ∷ texts) more good = (good.0, good_front texts more good.1)
 
@@ -217,7 +217,7 @@ file_found bytes rest number s file at sound e ends =
 abbrev said_in : PlayFile → List (List ℕ) → Play
 said_in file texts = record { fuel = file.fuel; random = file.random; texts = texts; steps = file.steps }
 
-same_requests : (texts : List (List ℕ)) (xs ys : List Incoming) → AreRequests texts xs → AreRequests texts ys → xs ≡ ys
+pub same_requests : (texts : List (List ℕ)) (xs ys : List Incoming) → AreRequests texts xs → AreRequests texts ys → xs ≡ ys
 same_requests [] [] [] a b = refl
 same_requests [] (x ∷ xs) ys a b = absurd a
 same_requests [] [] (y ∷ ys) a b = absurd b

@@ -19,7 +19,7 @@ none_leads p line none q e good = cc (sym none ∙ e)
 pub request_leads : (head : Head) (texts : List (List ℕ)) (line text : List ℕ) → bytes_eq line (codes "steps") ≡ false → length texts < 1000 → request_in line ≡ Some text → after_line (Asking head texts) line ≡ Some (Asking head (texts ++ text ∷ []))
 request_leads head texts line text other room read = rw (other, lt-ltb (length texts) 1000 room, read) refl
 
-good_last : (texts : List (List ℕ)) (text : List ℕ) → AreRequestTexts (texts ++ text ∷ []) → IsRequestText text
+pub good_last : (texts : List (List ℕ)) (text : List ℕ) → AreRequestTexts (texts ++ text ∷ []) → IsRequestText text
 good_last [] text good = good.0
 good_last (first ∷ texts) text good = good_last texts text good.1
 

@@ -23,7 +23,7 @@ use Rattle.play_files.proofs.Lines.{fuel_law, random_law, request_law}
 pub length_more : {X : Type 0} (xs : List X) (x : X) → length (xs ++ x ∷ []) ≡ length xs + 1
 length_more xs x = omega (arith, length-append xs (x ∷ []))
 
-bytes_more : (texts : List (List ℕ)) (text : List ℕ) → AreBytes texts → IsBytes text → AreBytes (texts ++ text ∷ [])
+pub bytes_more : (texts : List (List ℕ)) (text : List ℕ) → AreBytes texts → IsBytes text → AreBytes (texts ++ text ∷ [])
 bytes_more [] text fits last = (last, tt)
 bytes_more (first ∷ texts) text fits last = (fits.0, bytes_more texts text fits.1 last)
 
@@ -32,7 +32,7 @@ steps_more n [] step fits last = (last, tt)
 steps_more n (first ∷ steps) step fits last = (fits.0, steps_more n steps step fits.1 last)
 
 -- a line at the end
-last_line : (head front back : List (List ℕ)) (line : List ℕ) → head ++ (front ++ (back ++ line ∷ [])) ≡ (head ++ (front ++ back)) ++ line ∷ []
+pub last_line : (head front back : List (List ℕ)) (line : List ℕ) → head ++ (front ++ (back ++ line ∷ [])) ≡ (head ++ (front ++ back)) ++ line ∷ []
 last_line head front back line =
     ap (λ (ls : List (List ℕ)). head ++ ls) (sym (append_assoc front back (line ∷ []))) ∙ sym (append_assoc head (front ++ back) (line ∷ []))
 
@@ -140,16 +140,16 @@ line_takes (Over head texts steps) q line fits e = cc e
 
 -- ---- each state whose requests are good has a finished file
 
-zeros_fit : (n i : ℕ) → slice_index (replicate n 0) i < 256
+pub zeros_fit : (n i : ℕ) → slice_index (replicate n 0) i < 256
 zeros_fit zero zero = lit< tt
 zeros_fit zero (suc i) = lit< tt
 zeros_fit (suc n) zero = lit< tt
 zeros_fit (suc n) (suc i) = zeros_fit n i
 
-abbrev zeros : List ℕ
+abbrev pub zeros : List ℕ
 zeros = replicate 32 0
 
-zeros_are : IsRandom zeros
+pub zeros_are : IsRandom zeros
 zeros_are = (zeros_fit 32, refl)
 
 -- the file of this fuel with nothing to do

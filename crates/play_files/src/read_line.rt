@@ -12,7 +12,7 @@ use script_lines::Step;
 use std::alloc::Global;
 
 /// The one word behind this name.
-fn word_behind<'a>(name: &[u8], line: &'a [u8]) -> Result<&'a [u8], LineFault>
+pub fn word_behind<'a>(name: &[u8], line: &'a [u8]) -> Result<&'a [u8], LineFault>
     ensures { Gives (λ word. word.now) result (word_behind name.now (words_in line.now)) }
 {
     let (first, words) = Words::of(line).word()?;

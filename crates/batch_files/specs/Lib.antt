@@ -1,0 +1,4 @@
+pub mod Batch
+pub mod Reading
+pub mod Machine
+pub mod Begins
