@@ -60,6 +60,7 @@ pub struct Seat<'a, S: OneCache, C, L> {
 }
 
 /// What all workers of a batch share. A guest may take `limit` nanoseconds.
+#[derive(Drop)]
 pub struct Batch<'a, S: OneCache, M, G> {
     pub alloc: Global,
     pub hub: &'a Hub<S>,
