@@ -1,0 +1,6 @@
+pub mod Bodies
+pub mod Heads
+pub mod Laws
+pub mod Requests
+pub mod Responses
+pub mod Targets
