@@ -37,6 +37,7 @@ added_behind : (ended : Exit) (old between new part rest : List ℕ) → between
 added_behind exit.Ok old between new part rest is added = added ∙ ap (λ xs. xs ++ rest) is ∙ append_assoc old part rest
 added_behind exit.WriteFault old between new part rest is added = longer_prefix old between new part rest is added
 added_behind exit.Usage old between new part rest is added = absurd added
+added_behind (exit.SettingsBad kind) old between new part rest is added = absurd added
 added_behind (exit.ModuleBad fault) old between new part rest is added = absurd added
 added_behind (exit.RunBad line) old between new part rest is added = absurd added
 added_behind exit.ReadFault old between new part rest is added = absurd added

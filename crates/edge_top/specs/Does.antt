@@ -7,11 +7,13 @@ use Rattle.edge_outside.specs.Sink.{Write}
 use Rattle.edge_top.specs.declared.exit.Exit.{Exit}
 use Rattle.edge_top.specs.declared.exit.Exit.TheVariants as exit
 use Rattle.edge_top.specs.Exit.{of_read}
-use Rattle.edge_top.specs.Command.{Asked, Script, Check, Load}
+use Rattle.edge_top.specs.Command.{Asked, Script, Check, Play, Load}
 use Rattle.edge_top.specs.Worked.{Worked}
 use Rattle.edge_top.specs.Script.{Scripts}
 use Rattle.edge_top.specs.Check.{Checks}
+use Rattle.edge_top.specs.Play.{Plays}
 use Rattle.edge_top.specs.Load.{Loads}
+use Rattle.edge_top.specs.Several.{ReadsThen}
 
 -- what the answer to a read leads to: work on the bytes, or the end
 abbrev pub After : (List ℕ → Worked → Type 0) → Result (List ℕ) IoFault → Worked → Type 0
@@ -28,6 +30,7 @@ ReadsOne name Work (read ∷ (_ ∷ _)) worked = ⊥
 abbrev pub Works : Option Asked → List Read → Worked → Type 0
 Works (Some (Script name)) reads worked = ReadsOne name Scripts reads worked
 Works (Some (Check name)) reads worked = ReadsOne name Checks reads worked
+Works (Some (Play guest settings run)) reads worked = ReadsThen (guest ∷ (settings ∷ (run ∷ []))) Plays reads worked
 Works (Some (Load number)) reads worked = (reads ≡ []) × Loads number worked
 Works None reads worked = (reads ≡ []) × (worked ≡ Err exit.Usage)
 

@@ -5,6 +5,7 @@ pub mod Worked
 pub mod Script
 pub mod Check
 pub mod Load
-pub mod Does
 pub mod Several
+pub mod Play
+pub mod Does
 pub mod Parts

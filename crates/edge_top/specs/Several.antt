@@ -1,9 +1,4 @@
--- What a command of several files reads, and works out from that. No such command stands yet. One that reads MODULE,
--- SETTINGS and RUN, then loads the module, then reads the files that the settings name, and then works on all of that, has
--- the case
---     ReadsThen (module ∷ (settings ∷ (run ∷ []))) AfterFiles reads worked
--- where `AfterFiles (module ∷ (settings ∷ (run ∷ [])))` is
---     Then (Links module) (λ loaded. Then (Sets settings) (λ set. ReadsThen set.names (Plays loaded set run)))
+-- What a command of several files reads, and works out from that.
 use Rattle.std.specs.Prelude.{◌≡◌, ℕ, List, [], ◌∷◌, ◌++◌, Result, Ok, Err}
 use Rattle.edge_outside.specs.declared.fault.IoFault.{IoFault}
 use Rattle.edge_outside.specs.declared.fault.IoFault.TheVariants as io

@@ -13,6 +13,7 @@ use crate::check::check_text;
 use crate::command::{Command, command_of};
 use crate::exit::Exit;
 use crate::load::load_text;
+use crate::play::play_text;
 use crate::script::script_text;
 use cache_types::Octets;
 use edge_outside::{Files, Link, Sink};
@@ -30,6 +31,7 @@ fn text_of<F: Files>(alloc: Global, command: Command<'_>, files: &mut F) -> Resu
     match command {
         Command::Script(name) => script_text(alloc, files.read(alloc, name)?.as_slice()),
         Command::Check(name) => check_text(alloc, files.read(alloc, name)?.as_slice()),
+        Command::Play(names) => play_text(alloc, names, files),
         Command::Load(number) => load_text(alloc, number),
     }
 }

@@ -3,7 +3,8 @@
 //! `host` carries the promise of the product: where it exits with Ok, the bytes that it wrote are
 //! the text of one legal history, and of a block for each guest, tied to it and to its program.
 //! The definition to begin with is `specs/Does.antt`; what a command works out from the bytes that
-//! it read is in `specs/Script.antt` and `specs/Check.antt`, and from a number in `specs/Load.antt`.
+//! it read is in `specs/Script.antt`, `specs/Play.antt` and `specs/Check.antt`, and from a number in
+//! `specs/Load.antt`.
 #![tactic(auto)]
 
 mod check;
@@ -12,6 +13,7 @@ mod commands;
 mod exit;
 mod laws;
 mod load;
+mod play;
 mod script;
 
 pub use commands::host;

@@ -9,3 +9,5 @@ mod journals;
 mod loads;
 #[cfg(test)]
 mod modules;
+#[cfg(test)]
+mod plays;

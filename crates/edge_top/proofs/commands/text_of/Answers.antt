@@ -57,3 +57,8 @@ returns-in_ok-read-in-Check-clause-works g c =
 
 pub returns-in-Load-clause-works : goal.returns-in-Load-clause-works
 returns-in-Load-clause-works g c = ([], (made_none (IsRead g.F.Files.reads g.F.Files.content) c.args.files.now, rw c.in-Load.is (refl, c.load_text.ensures.gives)))
+
+pub returns-in-Play-clause-works : goal.returns-in-Play-clause-works
+returns-in-Play-clause-works g c =
+    let did = c.play_text.ensures.works in
+    (did.0, (did.1.0, rw c.in-Play.is did.1.1))
