@@ -27,8 +27,8 @@ use Rattle.player.specs.Runs.{Follows, is_answer, are_answers}
 use Rattle.player.specs.Tickets.{IsFresh, AreFresh}
 use Rattle.schedule_play.specs.Schedule.{answered_of}
 use Rattle.schedule_play.specs.Blocks.{is_cache, cache_calls}
-use Rattle.edge_work.specs.declared.answer.Answer.{Answer}
-use Rattle.edge_work.specs.Wire.{frames, answer_behind, is_headless}
+use Rattle.guest_answers.specs.declared.answer.Answer.{Answer}
+use Rattle.guest_answers.specs.Wire.{frames, answer_behind, is_headless}
 use Rattle.edge_work.specs.Sent.{all_written, Stays}
 use Rattle.edge_work.specs.Outside.{Stand, last_of, IsTimed, told_in, AreAmong, IsUnlinked, IsCause, is_gone, NoEntry, listed, IsNamed, IsGain}
 use Rattle.edge_work.specs.Work.{IsEndBehind, HasEnd, IsAsked, EndsAt, IsBrokenOff}

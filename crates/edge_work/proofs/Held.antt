@@ -3,7 +3,8 @@ use Rattle.std.proofs.Common.{◌≡◌, ℕ, ◌≤◌, List, [], ◌∷◌, �
 use Rattle.std.proofs.lemmas.List.{append-nil}
 use Rattle.edge_outside.specs.Made.{Made}
 use Rattle.edge_outside.specs.Sink.{SinkContent, Adds}
-use Rattle.edge_work.specs.Sent.{all_written, lost, joined}
+use Rattle.guest_answers.specs.Wire.{joined}
+use Rattle.edge_work.specs.Sent.{all_written, lost}
 
 pub held_all : (before after : SinkContent) (pieces : List (List ℕ)) → Made Adds before (all_written pieces) after → after.bytes ≡ before.bytes ++ joined pieces
 unfolding Made

@@ -11,9 +11,9 @@ use Rattle.edge_outside.specs.Clock.{ClockContent, IsReading, AreReadings}
 use Rattle.edge_outside.specs.Faults.{Rose, last_count}
 use Rattle.edge_outside.specs.Made.{Made, made_then}
 use Rattle.player.specs.Plays.{Answered}
-use Rattle.edge_work.specs.declared.answer.Answer.{Answer}
-use Rattle.edge_work.specs.declared.answer.Answer.TheVariants.{Headless, Headed, Closed}
-use Rattle.edge_work.specs.Wire.{after_call, frame, answer_from, answer_behind, frames_from, frames, is_headless}
+use Rattle.guest_answers.specs.declared.answer.Answer.{Answer}
+use Rattle.guest_answers.specs.declared.answer.Answer.TheVariants.{Headless, Headed, Closed}
+use Rattle.guest_answers.specs.Wire.{after_call, frame, answer_from, answer_behind, frames_from, frames, is_headless}
 use Rattle.edge_work.specs.Sent.{written, all_written, Stays}
 use Rattle.edge_work.specs.Outside.{last_of, told_by, told_in, AreAmong}
 

@@ -23,8 +23,8 @@ use Rattle.player.specs.Runs.{Follows}
 use Rattle.player.specs.Tickets.{AreFresh}
 use Rattle.schedule_play.specs.Schedule.{answered_of}
 use Rattle.schedule_play.specs.Blocks.{own, told_of, cache_calls}
-use Rattle.edge_work.specs.declared.answer.Answer.{Answer}
-use Rattle.edge_work.specs.Wire.{frames, answer_behind, is_headless, failure, sent}
+use Rattle.guest_answers.specs.declared.answer.Answer.{Answer}
+use Rattle.guest_answers.specs.Wire.{frames, answer_behind, is_headless, failure, sent}
 use Rattle.edge_work.specs.Sent.{written, all_written, lost, Stays, Fails, Finished}
 use Rattle.edge_work.specs.Outside.{Stand, stand, last_of, IsCause, is_gone}
 use Rattle.edge_work.specs.Next.{is_done}

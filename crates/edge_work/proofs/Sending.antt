@@ -12,9 +12,9 @@ use Rattle.edge_outside.specs.Faults.{Rose, Counts}
 use Rattle.edge_outside.specs.Made.{Made, made_none, made_one}
 use Rattle.edge_outside.specs.Reads.{failed}
 use Rattle.edge_outside.specs.Sink.{SinkContent, IsWrite}
-use Rattle.edge_work.specs.declared.answer.Answer.{Answer}
-use Rattle.edge_work.specs.declared.answer.Answer.TheVariants.{Headless, Headed, Closed}
-use Rattle.edge_work.specs.Wire.{frame, failure}
+use Rattle.guest_answers.specs.declared.answer.Answer.{Answer}
+use Rattle.guest_answers.specs.declared.answer.Answer.TheVariants.{Headless, Headed, Closed}
+use Rattle.guest_answers.specs.Wire.{frame, failure}
 use Rattle.edge_work.specs.Sent.{written, Stays, Sends, ToClient, IsWriteGiven, Fails}
 use Rattle.edge_work.specs.Outside.{IsCacheGiven}
 use Rattle.edge_work.proofs.Lists.{stays}

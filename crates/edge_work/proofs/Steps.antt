@@ -29,9 +29,9 @@ use Rattle.player.specs.Runs.{Follows, is_answer}
 use Rattle.player.specs.Tickets.{held_behind, AreFresh}
 use Rattle.schedule_play.proofs.Fresh.{fresh-more}
 use Rattle.schedule_play.proofs.Turning.{follows-more, answers-more}
-use Rattle.edge_work.specs.declared.answer.Answer.{Answer}
-use Rattle.edge_work.specs.declared.answer.Answer.TheVariants.{Headless}
-use Rattle.edge_work.specs.Wire.{after_call, frame, frames, answer_behind, is_headless}
+use Rattle.guest_answers.specs.declared.answer.Answer.{Answer}
+use Rattle.guest_answers.specs.declared.answer.Answer.TheVariants.{Headless}
+use Rattle.guest_answers.specs.Wire.{after_call, frame, frames, answer_behind, is_headless}
 use Rattle.edge_work.specs.Sent.{written, all_written, lost, Stays, Sends}
 use Rattle.edge_work.specs.Outside.{Stand, stand, last_of, IsTimed, told_by, told_in, AreAmong, IsUnlinked, IsCause, is_gone, MayAskOuter, listed, IsGain, Outside}
 use Rattle.edge_work.specs.Next.{answer_by, gone_by, trace_by, stopped_by, ended_by}

@@ -1,4 +1,3 @@
-pub mod Wire
 pub mod Sent
 pub mod Outside
 pub mod Next

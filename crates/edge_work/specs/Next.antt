@@ -4,8 +4,8 @@ use Rattle.cache_types.specs.declared.outer.OuterCall.{OuterCall}
 use Rattle.cache_types.specs.declared.outer.OuterReply.{OuterReply}
 use Rattle.cache_types.specs.declared.outer.Outcome.{Outcome}
 use Rattle.player.specs.Plays.{Answered, with_reply, is_end_call}
-use Rattle.edge_work.specs.declared.answer.Answer.{Answer}
-use Rattle.edge_work.specs.Wire.{after_call, is_headless}
+use Rattle.guest_answers.specs.declared.answer.Answer.{Answer}
+use Rattle.guest_answers.specs.Wire.{after_call, is_headless}
 use Rattle.edge_work.specs.Outside.{is_gone}
 
 abbrev pub answer_by : List ℕ → Answer → OuterCall → Result OuterReply Outcome → Answer

@@ -8,7 +8,7 @@ use Rattle.cache_types.specs.declared.outer.Outcome.TheVariants as outcome
 use Rattle.edge_outside.specs.Faults.{Rose, last_count}
 use Rattle.edge_outside.specs.Reads.{failed}
 use Rattle.edge_outside.specs.Sink.{Write}
-use Rattle.edge_work.specs.Wire.{failure}
+use Rattle.guest_answers.specs.Wire.{failure}
 
 -- one write of these bytes, or none where there are no bytes
 abbrev pub written : List ℕ → List Write
@@ -17,10 +17,6 @@ written (byte ∷ bytes) = (byte ∷ bytes, Ok tt) ∷ []
 
 abbrev pub all_written : List (List ℕ) → List Write
 all_written pieces = flat_map written pieces
-
--- the bytes of some pieces
-abbrev pub joined : List (List ℕ) → List ℕ
-joined pieces = flat_map (λ bytes. bytes) pieces
 
 -- one write of them, which failed
 abbrev pub lost : List ℕ → List Write

@@ -18,7 +18,7 @@ use Rattle.player.specs.declared.turn.Turn.TheVariants.{Outer, Over}
 use Rattle.player.specs.Plays.{Program, Answered, replies_of, events_of}
 use Rattle.player.specs.Runs.{Follows, are_answers}
 use Rattle.schedule_play.specs.Blocks.{own, told_of, cache_calls}
-use Rattle.edge_work.specs.Wire.{frame, frames, answer_behind, is_headless, failure, sent}
+use Rattle.guest_answers.specs.Wire.{frame, frames, answer_behind, is_headless, failure, sent}
 use Rattle.edge_work.specs.Sent.{all_written, lost}
 use Rattle.edge_work.specs.Outside.{last_of, IsTimed, told_in, AreAmong, IsUnlinked, IsCause, is_gone}
 

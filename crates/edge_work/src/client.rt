@@ -4,13 +4,13 @@ ghost use Rattle.cache_types.specs.declared.outer.OuterCall.TheVariants as outer
 ghost use Rattle.edge_outside.specs.Made.{Made};
 ghost use Rattle.edge_outside.specs.Sink.{IsWrite};
 ghost use Rattle.http_front.specs.Frames.{piece_text, end_text};
-ghost use Rattle.edge_work.specs.Wire.{frame};
+ghost use Rattle.guest_answers.specs.Wire.{frame};
 ghost use Rattle.edge_work.specs.Sent.{ToClient, IsWriteGiven, Finished};
 
-use crate::answer::Answer;
 use cache_types::{Octets, Outcome, OuterReply};
 use edge_outside::{Failed, Sink};
 use http_front::{Framing, end_frame, piece_frame};
+use guest_answers::Answer;
 use std::alloc::Global;
 
 /// Writes these bytes, if there are any. Where the write fails the client is gone.

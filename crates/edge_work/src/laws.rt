@@ -7,7 +7,8 @@ ghost use Rattle.cache_types.specs.Legal.{IsLegal};
 ghost use Rattle.edge_outside.specs.Made.{Made};
 ghost use Rattle.edge_outside.specs.Sink.{SinkContent, Adds};
 ghost use Rattle.player.specs.Plays.{Answered};
-ghost use Rattle.edge_work.specs.Sent.{all_written, lost, joined};
+ghost use Rattle.guest_answers.specs.Wire.{joined};
+ghost use Rattle.edge_work.specs.Sent.{all_written, lost};
 ghost use Rattle.edge_work.specs.Outside.{IsTimed};
 ghost use Rattle.edge_work.specs.Work.{IsTied};
 

@@ -8,7 +8,6 @@
 //! has a ticket.
 #![tactic(auto)]
 
-mod answer;
 mod client;
 mod laws;
 mod outside;

@@ -7,16 +7,16 @@ ghost use Rattle.cache_hub.specs.Calls.{MayAsk, HasWhole, HasShare};
 ghost use Rattle.edge_outside.specs.Made.{Made};
 ghost use Rattle.edge_outside.specs.Clock.{AreReadings};
 ghost use Rattle.edge_outside.specs.Sink.{IsWrite};
-ghost use Rattle.edge_work.specs.Wire.{frame};
+ghost use Rattle.guest_answers.specs.Wire.{frame};
 ghost use Rattle.edge_work.specs.Sent.{Sends};
 ghost use Rattle.edge_work.specs.Outside.{Outside, IsCacheGiven, stand, outcome_of, named, MayAskOuter};
 
-use crate::answer::Answer;
 use crate::client::{send_close, send_head, send_piece};
 use crate::work::Hand;
 use cache_hub::{Hub, HubPass, UntilFault};
 use cache_types::{CacheCall, OneCache, Outcome, OuterCall, OuterReply, Reply, Stepped};
 use edge_outside::{Clock, Gate, Sink};
+use guest_answers::Answer;
 use std::alloc::Global;
 use std::sync::Wait;
 

@@ -10,7 +10,6 @@ ghost use Rattle.player.specs.May.{MayAnswer};
 ghost use Rattle.edge_work.specs.Next.{answer_by, gone_by, is_done, trace_by, stopped_by, ended_by};
 ghost use Rattle.edge_work.specs.Work.{WorkedOne};
 
-use crate::answer::{Answer, after_call};
 use crate::client::finish;
 use crate::outside::{Came, reply_to};
 use cache_hub::{Hub, HubPass};
@@ -18,6 +17,7 @@ use cache_types::{Done, OneCache, Outcome, OuterCall, OuterReply};
 use edge_body::RequestHead;
 use edge_outside::{Clock, Gate, Sink};
 use player::{Player, Turn};
+use guest_answers::{Answer, after_call};
 use std::alloc::Global;
 use std::sync::Wait;
 

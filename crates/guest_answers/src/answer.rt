@@ -1,6 +1,6 @@
 //! How far a guest's answer has come.
 ghost use Rattle.std.specs.Prelude.{◌≡◌};
-ghost use Rattle.edge_work.specs.Wire.{opened, closed, after_call};
+ghost use Rattle.guest_answers.specs.Wire.{opened, closed, after_call};
 
 use cache_types::OuterCall;
 use edge_body::RequestHead;
@@ -13,6 +13,7 @@ pub enum Answer {
     Headless,
     /// The head was sent, which tells how the body is written.
     Headed(Framing),
+    /// The body is over. Nothing is written behind it.
     Closed,
 }
 

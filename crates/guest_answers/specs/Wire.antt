@@ -1,13 +1,14 @@
 -- A guest's answer on the wire, call by call.
 use Rattle.std.specs.Prelude.{ℕ, Bool, true, false, List, [], ◌∷◌, if◌then◌else◌}
+use Rattle.std.specs.List.{flat_map}
 use Rattle.cache_types.specs.declared.outer.OuterCall.{OuterCall}
 use Rattle.cache_types.specs.declared.outer.OuterCall.TheVariants as call
 use Rattle.http_front.specs.declared.answers.Framing.{Framing}
 use Rattle.http_front.specs.Answers.{empty_answer}
 use Rattle.http_front.specs.Frames.{framing_of, piece_text, end_text}
 use Rattle.player.specs.Plays.{Answered}
-use Rattle.edge_work.specs.declared.answer.Answer.{Answer}
-use Rattle.edge_work.specs.declared.answer.Answer.TheVariants.{Headless, Headed, Closed}
+use Rattle.guest_answers.specs.declared.answer.Answer.{Answer}
+use Rattle.guest_answers.specs.declared.answer.Answer.TheVariants.{Headless, Headed, Closed}
 
 -- a head tells how the body is written, to a request of this method
 abbrev pub opened : List ℕ → OuterCall → Answer
@@ -68,3 +69,7 @@ failure = empty_answer 500
 -- the whole answer of a guest that made these calls, piece by piece
 abbrev pub sent : List ℕ → List Answered → List (List ℕ)
 sent method trace = if is_headless (answer_behind method trace) then failure ∷ [] else frames method trace
+
+-- the bytes of some pieces
+abbrev pub joined : List (List ℕ) → List ℕ
+joined pieces = flat_map (λ bytes. bytes) pieces
