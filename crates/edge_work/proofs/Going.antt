@@ -17,6 +17,7 @@ use Rattle.cache_types.specs.declared.outer.Outcome.{Outcome}
 use Rattle.cache_types.specs.declared.outer.Outcome.TheVariants as outcome
 use Rattle.cache_types.specs.Entries.{newest_first, is_begin, is_end, begun, has_ended, is_live}
 use Rattle.cache_types.specs.Legal.{IsLegal}
+use Rattle.cache_types.specs.Limits.{is_within_limits}
 use Rattle.cache_hub.specs.Calls.{own_of, IsOpener, HasWhole}
 use Rattle.cache_hub.proofs.Waits.{prefix_on}
 use Rattle.edge_outside.specs.Faults.{Rose}
@@ -90,6 +91,7 @@ pub record Going {T C K : Type 0} (w : Ways T C K) (B : Program → Type 0) (P :
   pub share : w.Share old.pass → w.Share new.pass
   pub said : cache_calls trace ≡ map answered_of (entries_of gained)
   pub guests : All (λ (x : ℕ × Entry). x.1.guest ≡ new.guest) gained
+  pub limits : All (λ (x : ℕ × Entry). IsTrue (is_within_limits x.1.call)) gained
   pub longer : IsPrefix old.pass.seen new.pass.seen
   pub legal : IsLegal old.pass.seen → IsLegal new.pass.seen
   pub clock : w.Reads old.clock (first ∷ readings) new.clock

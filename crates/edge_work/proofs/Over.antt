@@ -156,6 +156,7 @@ ends w B P P1 M most first limit index method stopped stopped1 ended ended1 answ
       guest = subst (λ n. IsNobody g.gained g.trace n ⊎ IsKnown pass.seen g.gained g.trace (last_of first g.readings) n) (sym named) (subst (λ l. IsNobody g.gained g.trace guest ⊎ IsKnown pass.seen g.gained g.trace l guest) g.last known_is);
       mine = g.mine;
       of_guest = All-weaker (λ (x : ℕ × Entry). x.1.guest ≡ guest) (λ (x : ℕ × Entry). x.1.guest ≡ done.guest) (λ x e. e ∙ sym named) g.gained g.guests;
+      limits = g.limits;
       longer = g.longer;
       legal = g.legal;
       read = g.clock;

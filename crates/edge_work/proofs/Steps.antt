@@ -112,6 +112,12 @@ module _ {T C : Type 0} where
       let kept = kept_guest x mid new x.1.call cache.0 gain.3 in
       All-append (λ (y : ℕ × Entry). y.1.guest ≡ new.guest) gained (x ∷ []) (All-weaker (λ (y : ℕ × Entry). y.1.guest ≡ mid.guest) (λ (y : ℕ × Entry). y.1.guest ≡ new.guest) (λ y is. is ∙ sym kept) gained all) (All-cons (λ (y : ℕ × Entry). y.1.guest ≡ new.guest) x [] gain.2 (All-nil (λ (y : ℕ × Entry). y.1.guest ≡ new.guest)))
 
+  limits_next : (gained : List (ℕ × Entry)) (x : Option (ℕ × Entry)) (trace : List Answered) (c : OuterCall) (r : OuterReply) (mid new : Stand T C) → may.MayAsk trace c → IsGain c (Ok r) mid new x → All (λ (y : ℕ × Entry). IsTrue (is_within_limits y.1.call)) gained → All (λ (y : ℕ × Entry). IsTrue (is_within_limits y.1.call)) (gained ++ listed x)
+  limits_next gained None trace c r mid new asks gain all = subst (All (λ (y : ℕ × Entry). IsTrue (is_within_limits y.1.call))) (sym (append-nil gained)) all
+  limits_next gained (Some x) trace c r mid new asks gain all =
+      let cache = subst (may.MayAsk trace) gain.0 asks in
+      All-append (λ (y : ℕ × Entry). IsTrue (is_within_limits y.1.call)) gained (x ∷ []) all (All-cons (λ (y : ℕ × Entry). IsTrue (is_within_limits y.1.call)) x [] cache.1 (All-nil (λ (y : ℕ × Entry). IsTrue (is_within_limits y.1.call))))
+
   state_next : (trace : List Answered) (c : OuterCall) (r : OuterReply) (mid new : Stand T C) (gained : List (ℕ × Entry)) (x : Option (ℕ × Entry)) → may.MayAsk trace c → IsGain c (Ok r) mid new x → new.pass.mine ≡ mid.pass.mine ++ listed x → (is_end_call (Some c) ≡ true → All (IsTimed new.pass.seen (new.last ∷ [])) (listed x)) → IsState trace trace false mid gained
       → IsState (trace ++ answered c r ∷ []) (trace ++ answered c r ∷ []) (is_end_call (Some c)) new (gained ++ listed x)
   state_next trace c r mid new gained None asks gain mine timed state = state_other trace c r mid new gained asks gain.0 gain.1 mine state
@@ -161,6 +167,7 @@ replied w B P P' most first limit method stopped answer gone old mid new sink0 s
       share = λ s. o.share (g.share s);
       said = said_next g.trace c r mid new g.gained o.gained g.said o.gain;
       guests = guests_next g.gained o.gained g.trace c r mid new asks g.state o.gain g.guests;
+      limits = limits_next g.gained o.gained g.trace c r mid new asks o.gain g.limits;
       longer = prefix_on old.pass.seen mid.pass.seen new.pass.seen g.longer o.longer;
       legal = λ l. o.legal (g.legal l);
       clock = w.reads_both old.clock (first ∷ g.readings) mid.clock o.readings new.clock g.clock o.clock;
@@ -221,6 +228,7 @@ halted w B P P' most first limit method None answer gone old mid new sink0 sink1
       share = λ s. o.share (g.share s);
       said = g.said;
       guests = All-weaker (λ (y : ℕ × Entry). y.1.guest ≡ mid.guest) (λ (y : ℕ × Entry). y.1.guest ≡ new.guest) (λ y is. is ∙ sym n.0) g.gained g.guests;
+      limits = g.limits;
       longer = prefix_on old.pass.seen mid.pass.seen new.pass.seen g.longer o.longer;
       legal = λ l. o.legal (g.legal l);
       clock = w.reads_both old.clock (first ∷ g.readings) mid.clock o.readings new.clock g.clock o.clock;
@@ -275,6 +283,7 @@ again w B P P' most first limit method stopped stopped' ended answer gone old ne
   share = g.share;
   said = g.said;
   guests = g.guests;
+  limits = g.limits;
   longer = g.longer;
   legal = g.legal;
   clock = g.clock;
@@ -384,6 +393,7 @@ begins w B P most first limit method pass clock clock' sink stopped ended whole 
       share = λ s. s;
       said = refl;
       guests = All-nil (λ (x : ℕ × Entry). x.1.guest ≡ 0);
+      limits = All-nil (λ (x : ℕ × Entry). IsTrue (is_within_limits x.1.call));
       longer = ([], append-nil pass.seen);
       legal = λ l. l;
       clock = read;

@@ -11,6 +11,7 @@ use Rattle.cache_types.specs.declared.outer.OuterReply.{OuterReply}
 use Rattle.cache_types.specs.declared.outer.Outcome.{Outcome}
 use Rattle.cache_types.specs.Entries.{newest_first, is_end, has_ended}
 use Rattle.cache_types.specs.Legal.{IsLegal}
+use Rattle.cache_types.specs.Limits.{is_within_limits}
 use Rattle.cache_hub.specs.Calls.{IsOpener}
 use Rattle.edge_outside.specs.Faults.{Rose}
 use Rattle.edge_outside.specs.Sink.{Write}
@@ -104,6 +105,7 @@ pub record WorkedOne {T C K : Type 0} (Reads : C → List ℕ → C → Type 0) 
   pub guest : IsNobody gained trace done.guest ⊎ IsKnown pass'.seen gained trace (last_of first readings) done.guest
   pub mine : pass'.mine ≡ pass.mine ++ gained
   pub of_guest : All (λ (x : ℕ × Entry). x.1.guest ≡ done.guest) gained
+  pub limits : All (λ (x : ℕ × Entry). IsTrue (is_within_limits x.1.call)) gained
   pub longer : IsPrefix pass.seen pass'.seen
   pub legal : IsLegal pass.seen → IsLegal pass'.seen
   pub read : Reads clock (first ∷ readings) clock'
