@@ -48,6 +48,16 @@ pub fn command_of(words: &[String]) -> Option<(Command, &str)> {
     }
 }
 
+/// The play file and the journal of the words `answers PLAY JOURNAL`.
+pub fn of_two(words: &[String]) -> Option<(&str, &str)> {
+    match words {
+        [word, play, journal] if word.as_str() == "answers" => {
+            Some((play.as_str(), journal.as_str()))
+        }
+        _ => None,
+    }
+}
+
 /// A run that was played, as the command wants it.
 fn played_answer(
     out: &mut String,
