@@ -28,11 +28,11 @@ fn how(outcome: Outcome) -> &'static str {
 /// How many bytes there are up to the empty line, and with it.
 fn head_length(bytes: &[u8]) -> usize {
     let mut at = 0usize;
-    for _ in bytes {
-        if bytes[at..].starts_with(b"\r\n\r\n") {
+    for window in bytes.windows(4) {
+        if window == b"\r\n\r\n".as_slice() {
             return at.saturating_add(4);
         }
-        at = at.saturating_add(1).min(bytes.len());
+        at = at.saturating_add(1);
     }
     bytes.len()
 }

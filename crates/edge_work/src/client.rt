@@ -9,8 +9,8 @@ ghost use Rattle.edge_work.specs.Sent.{ToClient, IsWriteGiven, Finished};
 
 use cache_types::{Octets, Outcome, OuterReply};
 use edge_outside::{Failed, Sink};
-use http_front::{Framing, end_frame, piece_frame};
 use guest_answers::Answer;
+use http_front::{Framing, end_frame, piece_frame};
 use std::alloc::Global;
 
 /// Writes these bytes, if there are any. Where the write fails the client is gone.

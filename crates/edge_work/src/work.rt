@@ -16,8 +16,8 @@ use cache_hub::{Hub, HubPass};
 use cache_types::{Done, OneCache, Outcome, OuterCall, OuterReply};
 use edge_body::RequestHead;
 use edge_outside::{Clock, Gate, Sink};
-use player::{Player, Turn};
 use guest_answers::{Answer, after_call};
+use player::{Player, Turn};
 use std::alloc::Global;
 use std::sync::Wait;
 
