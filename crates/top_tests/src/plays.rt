@@ -53,7 +53,7 @@ fn module_of(alloc: Global, digits: &str) -> Result<Vec<u8>, Fail> {
         b"\0asm\x01\0\0\0\x01\x04\x01\x60\0\0\x03\x02\x01\0\x07\x0a\x01\x06_start\0\0\x0a".to_vec(
             alloc,
         )?;
-    let size = code.len() as u8;
+    let size = u8::try_from(code.len()).unwrap_or(u8::MAX);
     bytes.extend_from_slice(&[size.saturating_add(3), 1, size.saturating_add(1), 0])?;
     bytes.extend_from_slice(code.as_slice())?;
     Ok(bytes)
