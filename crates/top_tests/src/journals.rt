@@ -28,6 +28,9 @@ edge-journal 1\n1 1 0 begin = begun\n2 1 0 insert 6b max=10 = made\n3 1 0 write 
 Transfer|\
 edge-run 1\nguest\ntxlookup 6b\ntxcancel @1\nguest\ntxlookup 6b\nsteps\n0 1\n0 1\n0 2\n0 2\n0 1\n0 2\n0 1\n0 2\nend\n|\
 edge-journal 1\n1 1 0 begin = begun\n2 1 0 txlookup 6b = got 8\n3 3 0 begin = begun\n4 1 0 txcancel 2 = done\n5 3 0 txlookup 6b = got 8\n6 1 0 end = done\n7 3 0 end = done\nguest 1 1\nc 1\nc 2\nc 4\nc 6\nover returned\nguest 2 3\nc 3\nc 5\nc 7\nover returned\nend 7\n%\
+A close frees, and is made once|\
+edge-run 1\nguest\ntxlookup 6b\nclose @1\nclose @1\nguest\ntxlookup 6b\nsteps\n0 1\n0 1\n0 2\n0 2\n0 1\n0 2\n0 1\n0 1\n0 2\nend\n|\
+edge-journal 1\n1 1 0 begin = begun\n2 1 0 txlookup 6b = got 8\n3 3 0 begin = begun\n4 1 0 close 2 = done\n5 3 0 txlookup 6b = got 8\n6 1 0 close 2 = refused\n7 1 0 end = done\n8 3 0 end = done\nguest 1 1\nc 1\nc 2\nc 4\nc 6\nc 7\nover returned\nguest 2 3\nc 3\nc 5\nc 8\nover returned\nend 8\n%\
 End frees|\
 edge-run 1\nguest\ntxlookup 6b\nguest\ntxlookup 6b\nsteps\n0 1\n0 1\n0 2\n0 2\n0 1\n0 2\nend\n|\
 edge-journal 1\n1 1 0 begin = begun\n2 1 0 txlookup 6b = got 8\n3 3 0 begin = begun\n4 1 0 end = done\n5 3 0 txlookup 6b = got 8\n6 3 0 end = done\nguest 1 1\nc 1\nc 2\nc 4\nover returned\nguest 2 3\nc 3\nc 5\nc 6\nover unscheduled\nend 6\n%\
