@@ -24,5 +24,5 @@ also call other is may = subst MayMake (sym is) may
 pub may_write : (object : ℕ) (piece : List ℕ) → length piece ≡ 65536 → MayMake (Write object piece)
 may_write object piece is = record { limits = subst (λ n. nat_le n 65536 ≡ true) (sym is) refl; no_begin = refl; no_end = refl }
 
-pub may_read : (hit : ℕ) → MayMake (Read hit 0 65536)
-may_read hit = record { limits = refl; no_begin = refl; no_end = refl }
+pub may_read : (hit place : ℕ) → MayMake (Read hit place 65536)
+may_read hit place = record { limits = refl; no_begin = refl; no_end = refl }

@@ -116,12 +116,12 @@ pub fn write(alloc: Global, object: u64) -> Result<CacheCall, AllocError>
     Ok(CacheCall::Write { object, piece })
 }
 
-pub fn read(hit: u64) -> CacheCall
+pub fn read(hit: u64, place: u64) -> CacheCall
     ensures { MayMake result }
 {
     CacheCall::Read {
         hit,
-        place: 0,
+        place,
         most: PIECE,
     }
 }

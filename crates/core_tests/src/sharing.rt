@@ -1,4 +1,4 @@
-//! Reads inside one piece of a body share its memory.
+//! Reads inside one piece of a body share its memory, whichever piece it is.
 
 ghost use Rattle.std.specs.Prelude.{OnOk};
 ghost use Rattle.core_tests.specs.Asked.{HasGuest};
@@ -6,12 +6,12 @@ ghost use Rattle.core_tests.specs.Asked.{HasGuest};
 use crate::asked::{ask, begin};
 use crate::calls::{PIECE, Round, call_of, read, write};
 use cache_core::CoreCache;
-use cache_types::{OneCache, Reply, Stepped};
+use cache_types::{OneCache, Reply, StepFault, Stepped};
 use std::alloc::Global;
 use std::fs;
 use std::test::Fail;
 
-/// How many reads of the piece are kept.
+/// How many reads of the two pieces are kept.
 const READS: u64 = 10_000;
 
 /// How many pages of 4,096 bytes they may take, with their entries. Copied they would take sixteen each, and as many in the
@@ -27,7 +27,17 @@ fn pages(rt: &HostRuntime) -> Result<u64, Fail> {
     Ok(resident.parse::<u64>().map_err(|_| "no number")?)
 }
 
-/// What many reads of the object's first bytes told.
+fn is_done(told: &Result<Stepped, StepFault>) -> bool {
+    matches!(
+        told,
+        Ok(Stepped {
+            reply: Reply::Done,
+            ..
+        })
+    )
+}
+
+/// What many reads told of the object's two pieces, in turns.
 fn reads<S: OneCache>(
     alloc: Global,
     cache: &mut S,
@@ -38,8 +48,9 @@ fn reads<S: OneCache>(
     ensures { OnOk result (HasGuest (S.history cache.new) guest) }
 {
     let mut told = Vec::new(alloc);
-    for _ in 0..READS {
-        told.push(ask(cache, guest, &read(object)).map_err(|_| "no answer")?)?;
+    for n in 0..READS {
+        let place = if n % 2 == 0 { 0 } else { u64::from(PIECE) };
+        told.push(ask(cache, guest, &read(object, place)).map_err(|_| "no answer")?)?;
     }
     Ok(told)
 }
@@ -52,16 +63,9 @@ fn reads_share_their_piece(rt: HostRuntime) -> Result<(), Fail> {
     let made = ask(&mut cache, guest, &call_of(alloc, Round::Insert, 1)?).map_err(
         |_| "no insertion",
     )?;
-    let written = ask(&mut cache, guest, &write(alloc, made.number)?);
-    assert!(rt;
-        matches!(
-            written,
-            Ok(Stepped {
-                reply: Reply::Done,
-                ..
-            })
-        )
-    );
+    let first = ask(&mut cache, guest, &write(alloc, made.number)?);
+    let second = ask(&mut cache, guest, &write(alloc, made.number)?);
+    assert!(rt; is_done(&first) && is_done(&second));
     let before = pages(&rt)?;
     let told = reads(alloc, &mut cache, guest, made.number)?;
     let after = pages(&rt)?;
