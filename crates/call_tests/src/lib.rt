@@ -11,9 +11,13 @@ mod cache;
 #[cfg(test)]
 mod guest;
 #[cfg(test)]
+mod kinds;
+#[cfg(test)]
 mod messages;
 #[cfg(test)]
 mod options;
+#[cfg(test)]
+mod parameters;
 #[cfg(test)]
 mod said;
 #[cfg(test)]
