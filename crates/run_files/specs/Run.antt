@@ -37,7 +37,7 @@ run_text run = text_of (run_lines run)
 
 -- ---- what has a spelling
 
--- a guest has 1,000 companions at most, and a schedule 1,000,000 steps
+-- a file has 1,000 guests at most, and a schedule 1,000,000 steps
 abbrev pub most_guests : ℕ
 most_guests = 1000
 
