@@ -11,10 +11,11 @@ missing() {
     exit 3
 }
 
+[ $# -eq 2 ] || { echo 'usage: examples/guests/build.sh SOURCE MODULE' >&2; exit 2; }
 case $1 in
 *.c)
-    command -v clang >/dev/null || missing 'clang is not installed'
-    command -v wasm-ld >/dev/null || missing 'wasm-ld, the linker of LLVM, is not installed'
+    command -v clang >/dev/null || missing 'clang is not installed (Debian: apt-get install clang lld)'
+    command -v wasm-ld >/dev/null || missing 'wasm-ld, the linker of LLVM, is not installed (Debian: apt-get install lld)'
     clang --target=wasm32 -mcpu=mvp -std=c11 -Wall -Wextra -O2 -nostdlib -ffreestanding -I "$here" \
         -Wl,--no-entry -Wl,--strip-all -o "$2" "$1"
     ;;

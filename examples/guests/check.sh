@@ -4,8 +4,8 @@
 # every call of edge.h is accepted. hello.rs is built where rustc has a target for it. It stands outside the gate, and is
 # skipped where clang or wasm-ld is missing. EDGE names another program than the launcher.
 set -eu
-cd "$(dirname "$0")"
-edge=$(readlink -f -- "${EDGE:-../../edge}")
+edge=$(readlink -e -- "${EDGE:-$(dirname -- "$0")/../../edge}") || { echo "${0##*/}: there is no program ${EDGE:-edge}" >&2; exit 1; }
+cd "$(dirname -- "$0")"
 for tool in clang wasm-ld; do
     if ! command -v "$tool" >/dev/null; then
         echo "skipped: no $tool"

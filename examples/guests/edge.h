@@ -116,6 +116,7 @@ EDGE_CALL("fastly_http_req", "method_get")
 edge_status http_req_method_get(edge_handle request, char *buffer, uint32_t room, uint32_t *length);
 EDGE_CALL("fastly_http_req", "method_set")
 edge_status http_req_method_set(edge_handle request, const char *method, uint32_t length);
+/* A whole URI. Of the client's request: `http://`, its Host and its target, or its target alone where that is whole. */
 EDGE_CALL("fastly_http_req", "uri_get")
 edge_status http_req_uri_get(edge_handle request, char *buffer, uint32_t room, uint32_t *length);
 EDGE_CALL("fastly_http_req", "uri_set")

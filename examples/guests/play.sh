@@ -4,8 +4,8 @@
 # journal differs. It stands outside the gate, which plays the modules that are kept. EDGE names another program than the
 # launcher, and RUSTC another rustc.
 set -eu
-cd "$(dirname "$0")"
-edge=$(readlink -f -- "${EDGE:-../../edge}")
+edge=$(readlink -e -- "${EDGE:-$(dirname -- "$0")/../../edge}") || { echo "${0##*/}: there is no program ${EDGE:-edge}" >&2; exit 1; }
+cd "$(dirname -- "$0")"
 work=$(mktemp -d)
 trap 'rm -rf "$work"' EXIT
 bad=0
