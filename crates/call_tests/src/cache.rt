@@ -58,7 +58,7 @@ const READ_BACK: &[Do] = &[
 
 #[test]
 fn what_is_read_back(rt: HostRuntime) -> Result<(), Fail> {
-    assert_eq!(rt; first_off_anew(rt.alloc(), READ_BACK)?, None);
+    assert_eq!(rt; first_off_anew(rt.alloc(), &[READ_BACK])?, None);
     Ok(())
 }
 
@@ -93,7 +93,7 @@ const OWN_NAMES: &[Do] = &[
 
 #[test]
 fn own_names(rt: HostRuntime) -> Result<(), Fail> {
-    assert_eq!(rt; first_off_anew(rt.alloc(), OWN_NAMES)?, None);
+    assert_eq!(rt; first_off_anew(rt.alloc(), &[OWN_NAMES])?, None);
     Ok(())
 }
 
@@ -159,6 +159,6 @@ const ENDS: &[Do] = &[
 
 #[test]
 fn ends_and_odd_replies(rt: HostRuntime) -> Result<(), Fail> {
-    assert_eq!(rt; first_off_anew(rt.alloc(), ENDS)?, None);
+    assert_eq!(rt; first_off_anew(rt.alloc(), &[ENDS])?, None);
     Ok(())
 }

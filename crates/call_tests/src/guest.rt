@@ -6,7 +6,7 @@ use edge_abi::Step;
 use edge_body::RequestHead;
 use edge_imports::Hostcall;
 use fastly_toml::{Settings, Texts};
-use guest_calls::{Call, GuestTables, RowCall, goes_on, row, standing};
+use guest_calls::{Call, GuestStep, GuestTables, RowCall, Under, goes_on, row, standing};
 use std::alloc::{AllocError, Global};
 use std::collections::BTreeMap;
 use wasm_memory::Memory;
@@ -73,6 +73,55 @@ fn values_of(alloc: Global, call: Hostcall, words: &[u32]) -> Result<Vec<Value>,
     Ok(values)
 }
 
+/// How a row begins.
+fn begun(
+    alloc: Global,
+    guest: &mut Guest,
+    call: RowCall,
+    arguments: &[Value],
+) -> Result<GuestStep, AllocError> {
+    row(alloc, call, arguments, &mut guest.tables, &mut guest.memory)
+}
+
+/// How a row goes on behind a reply.
+fn heard(
+    alloc: Global,
+    guest: &mut Guest,
+    under: Under,
+    said: Said,
+) -> Result<GuestStep, AllocError> {
+    let reply = reply_of(alloc, said)?;
+    goes_on(alloc, &mut guest.tables, &mut guest.memory, under, &reply)
+}
+
+/// The same of a row that has come to this; where it is done, the reply is left over.
+fn gone_on(
+    alloc: Global,
+    guest: &mut Guest,
+    step: GuestStep,
+    said: Said,
+) -> Result<GuestStep, AllocError> {
+    match step {
+        Step::Done(_) => Ok(Step::Done(LEFT_OVER)),
+        Step::Outer(_, under) => heard(alloc, guest, under, said),
+    }
+}
+
+/// Adds what the outer call says that a row has come to.
+fn say_step(step: &GuestStep, told: &mut Vec<u8>) -> Result<(), AllocError> {
+    match step {
+        Step::Done(_) => Ok(()),
+        Step::Outer(asked, _) => say(asked, told),
+    }
+}
+
+fn number_of(step: &GuestStep) -> u32 {
+    match step {
+        Step::Done(number) => *number,
+        Step::Outer(_, _) => ASKS,
+    }
+}
+
 /// What a row comes to by these replies, and what its outer calls say.
 fn ask_row(
     alloc: Global,
@@ -82,21 +131,12 @@ fn ask_row(
     replies: &[Said],
     told: &mut Vec<u8>,
 ) -> Result<u32, AllocError> {
-    let mut step = row(alloc, call, arguments, &mut guest.tables, &mut guest.memory)?;
+    let mut step = begun(alloc, guest, call, arguments)?;
     for said in replies {
-        match step {
-            Step::Done(_) => return Ok(LEFT_OVER),
-            Step::Outer(asked, under) => {
-                say(&asked, told)?;
-                let reply = reply_of(alloc, *said)?;
-                step = goes_on(alloc, &mut guest.tables, &mut guest.memory, under, &reply)?;
-            }
-        }
+        say_step(&step, told)?;
+        step = gone_on(alloc, guest, step, *said)?;
     }
-    match step {
-        Step::Done(number) => Ok(number),
-        Step::Outer(_, _) => Ok(ASKS),
-    }
+    Ok(number_of(&step))
 }
 
 /// What a call comes to with these arguments, by these replies, and what its outer calls say.
@@ -113,15 +153,4 @@ pub fn ask_told(
         Some(Call::Row(call)) => ask_row(alloc, guest, call, &arguments, replies, told),
         _ => Ok(LEFT_OVER),
     }
-}
-
-/// What a call answers with these arguments; `ASKS` where it makes an outer call.
-pub fn ask(
-    alloc: Global,
-    guest: &mut Guest,
-    call: Hostcall,
-    words: &[u32],
-) -> Result<u32, AllocError> {
-    let mut told = Vec::new(alloc);
-    ask_told(alloc, guest, call, words, &[], &mut told)
 }

@@ -69,11 +69,7 @@ fn is_so(alloc: Global, guest: &mut Guest, step: Do) -> Result<bool, AllocError>
 }
 
 /// The place of the first step that doesn't come out as told.
-pub fn first_off(
-    alloc: Global,
-    guest: &mut Guest,
-    steps: &[Do],
-) -> Result<Option<usize>, AllocError> {
+fn first_off(alloc: Global, guest: &mut Guest, steps: &[Do]) -> Result<Option<usize>, AllocError> {
     for (place, step) in steps.iter().enumerate() {
         if !is_so(alloc, guest, *step)? {
             return Ok(Some(place));
@@ -82,9 +78,26 @@ pub fn first_off(
     Ok(None)
 }
 
+/// The first step of some lists, one behind another, that doesn't come out as told: which list it is in, and its place there.
+fn first_off_of(
+    alloc: Global,
+    guest: &mut Guest,
+    lists: &[&[Do]],
+) -> Result<Option<(usize, usize)>, AllocError> {
+    for (number, steps) in lists.iter().enumerate() {
+        if let Some(place) = first_off(alloc, guest, steps)? {
+            return Ok(Some((number, place)));
+        }
+    }
+    Ok(None)
+}
+
 /// The same of a guest that did nothing yet.
-pub fn first_off_anew(alloc: Global, steps: &[Do]) -> Result<Option<usize>, AllocError> {
+pub fn first_off_anew(
+    alloc: Global,
+    lists: &[&[Do]],
+) -> Result<Option<(usize, usize)>, AllocError> {
     let settings = settings(alloc)?;
     let mut guest = fresh_guest(alloc, &settings)?;
-    first_off(alloc, &mut guest, steps)
+    first_off_of(alloc, &mut guest, lists)
 }

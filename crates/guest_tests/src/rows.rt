@@ -4,7 +4,7 @@ use crate::modules::{
     ASKS_A_CLOCK, CALLS, CALLS_ITSELF, DIVIDES, EXITS, GROWS, GROWS_TO_THE_MOST, NOTHING, ONE_NOP,
     PAST_THE_END, SPINS, TAKES_HANDLES, TRAPS, USES_A_CACHE,
 };
-use crate::playing::played;
+use crate::playing::{Given, played};
 use cache_types::{Outcome, TrapNumber};
 use std::alloc::Global;
 use std::test::Fail;
@@ -16,10 +16,25 @@ type Row = (&'static [u8], u64, u64, u64, Outcome, usize);
 
 fn ends_so(alloc: Global, row: &Row) -> bool {
     let (bytes, fuel, reading, stop_at, outcome, calls) = *row;
-    match played(alloc, bytes, fuel, reading, stop_at) {
-        Ok((ended, trace)) => ended == outcome && trace.items().len() == calls,
-        Err(_) => false,
+    let given = Given {
+        fuel,
+        reading,
+        stop_at,
+    };
+    match played(alloc, bytes, given) {
+        Some((ended, trace)) => ended == outcome && trace.items().len() == calls,
+        None => false,
     }
+}
+
+/// The place of the first row whose guest doesn't end so, from 0.
+fn first_off(alloc: Global, rows: &[Row]) -> Option<usize> {
+    for (place, row) in rows.iter().enumerate() {
+        if !ends_so(alloc, row) {
+            return Some(place);
+        }
+    }
+    None
 }
 
 #[test]
@@ -56,11 +71,7 @@ fn guests_end(rt: HostRuntime) -> Result<(), Fail> {
         (ASKS_A_CLOCK, 10, 42, 2, Outcome::Unscheduled, 3),
         (ASKS_A_CLOCK, 10, 42, 3, Outcome::Unscheduled, 3),
     ];
-    let mut number = 0u32;
-    for row in rows {
-        number = number.saturating_add(1);
-        assert!(rt; ends_so(rt.alloc(), &row), "row {number}");
-    }
+    assert_eq!(rt; first_off(rt.alloc(), &rows), None);
     Ok(())
 }
 
@@ -86,10 +97,6 @@ fn guests_take_what_there_is(rt: HostRuntime) -> Result<(), Fail> {
             2,
         ),
     ];
-    let mut number = 0u32;
-    for row in rows {
-        number = number.saturating_add(1);
-        assert!(rt; ends_so(rt.alloc(), &row), "row {number}");
-    }
+    assert_eq!(rt; first_off(rt.alloc(), &rows), None);
     Ok(())
 }
