@@ -30,8 +30,18 @@ fn other_file(bytes: &[u8]) -> Option<&'static str> {
     if bytes.starts_with(b"edge-run ") {
         return Some("this is a run file: `./edge script` runs it");
     }
+    if bytes.starts_with(b"edge-play ") {
+        return Some(
+            "this is a play file, not a module: the names are in the order MODULE SETTINGS RUN",
+        );
+    }
     if bytes.starts_with(b"edge-journal ") {
         return Some("this is a journal, what `./edge script` writes, not a module");
+    }
+    if bytes.starts_with(b"[local_server") || bytes.starts_with(b"manifest_version") {
+        return Some(
+            "these are settings, not a module: the names are in the order MODULE SETTINGS RUN",
+        );
     }
     if bytes.starts_with(b"\x1f\x8b") || bytes.starts_with(b"PK") {
         return Some("the file is packed (gzip or zip); unpack it first");
