@@ -2,8 +2,8 @@
 
 use crate::play_spot::{PlayPart, PlaySpot, play_spot_at};
 use crate::requests::request_hint;
-use crate::runs::{MOST_BYTES, encoded, odd_byte, step_hint, unseen};
-use crate::spelling::{bad_hex, bad_number, begins_with_digit, hex_len};
+use crate::runs::{MOST_BYTES, encoded, is_settings, odd_byte, step_hint, unseen};
+use crate::spelling::{are_hex_words, bad_hex, bad_number, begins_with_digit, hex_len};
 use crate::spot::{Part, Spot};
 use crate::text::{quote, show_number};
 use std::alloc::{AllocError, Global};
@@ -18,12 +18,12 @@ fn other_file(bytes: &[u8]) -> Option<&'static str> {
     }
     if bytes.starts_with(b"\0asm") {
         return Some(
-            "this is a WebAssembly module, not a play file: the names are in the order MODULE SETTINGS RUN",
+            "this is a WebAssembly module, not a play file: `./edge play` takes its files in the order MODULE SETTINGS RUN",
         );
     }
-    if bytes.starts_with(b"[") || bytes.starts_with(b"name ") || bytes.starts_with(b"manifest") {
+    if is_settings(bytes) {
         return Some(
-            "these are settings, not a play file: the names are in the order MODULE SETTINGS RUN",
+            "these are settings, not a play file: `./edge play` takes its files in the order MODULE SETTINGS RUN",
         );
     }
     if bytes.starts_with(b"edge-run ") {
@@ -38,27 +38,24 @@ fn other_file(bytes: &[u8]) -> Option<&'static str> {
     }
     if bytes.starts_with(b"edge-journal ") {
         return Some(
-            "this is a journal, what `./edge play` writes, not a play file; a play file begins with `edge-play 1`",
+            "this is a journal, what `./edge play` and `./edge script` write, not a play file; a play file begins with `edge-play 1`",
         );
     }
     encoded(bytes)
 }
 
-/// The file ends where a line is wanted.
-fn too_short(out: &mut String, part: PlayPart) -> Result<(), AllocError> {
+/// What is wanted where the file ends too early.
+fn too_short(part: PlayPart) -> &'static str {
     match part {
-        PlayPart::Head => out.push_str("the first line is to be `edge-play 1`"),
-        PlayPart::Fuel => out.push_str(
+        PlayPart::Head => "the first line is to be `edge-play 1`",
+        PlayPart::Fuel =>
             "the file ends behind its first line; `fuel` and `random`, the requests and the schedule follow",
-        ),
-        PlayPart::Random => out.push_str(
+        PlayPart::Random =>
             "the file ends behind `fuel`; `random`, the requests and the schedule follow",
-        ),
-        PlayPart::Requests => out.push_str(
+        PlayPart::Requests =>
             "the file ends without its schedule: the line `steps`, the steps, the line `end`",
-        ),
-        PlayPart::Steps => out.push_str("the file ends without its last line, `end`"),
-        PlayPart::Over => out.push_str("nothing can follow the line `end`"),
+        PlayPart::Steps => "the file ends without its last line, `end`",
+        PlayPart::Over => "nothing can follow the line `end`",
     }
 }
 
@@ -84,7 +81,7 @@ fn fuel_hint(out: &mut String, line: &[u8]) -> Result<(), AllocError> {
             "the second line is `fuel` and a number: how many instructions each guest may execute",
         );
     };
-    if bad_number(out, "the fuel", word)? {
+    if !word.contains(&b' ') && bad_number(out, "the fuel", word)? {
         return Ok(());
     }
     out.push_str("behind `fuel` stands one number, and nothing else")
@@ -96,13 +93,18 @@ fn random_hint(out: &mut String, line: &[u8]) -> Result<(), AllocError> {
             "the third line is `random` and 32 bytes in hexadecimal, of which the guests' random numbers are made; 64 zeros will do",
         );
     };
-    if bad_hex(out, "the bytes behind `random`", word)? {
+    if word.contains(&b' ') {
+        return out.push_str(
+            "behind `random` stands one word of 64 hexadecimal digits, without spaces",
+        );
+    }
+    if !word.is_empty() && bad_hex(out, "the word behind `random`", word)? {
         return Ok(());
     }
-    let count = hex_len(word);
+    let count = hex_len(word).saturating_mul(2);
     write!(
         out,
-        "behind `random` stand {count} bytes; there have to be 32, so 64 digits"
+        "behind `random` there have to be 32 bytes, so 64 hexadecimal digits, and there are {count}"
     )
 }
 
@@ -134,15 +136,24 @@ fn bytes_of(alloc: Global, word: &[u8]) -> Result<Vec<u8>, AllocError> {
 
 /// What is wrong with the word of a request.
 fn word_hint(out: &mut String, word: &[u8]) -> Result<(), AllocError> {
-    if bad_hex(out, "the request", word)? {
-        return Ok(());
+    if word.is_empty() {
+        return out.push_str("behind `request` stand the bytes of a request in hexadecimal");
     }
-    let text = bytes_of(*out.allocator(), word)?;
     if word == b"-".as_slice() {
         return out.push_str("`-` stands for no bytes, and no bytes are no request");
     }
+    if word.contains(&b' ') && are_hex_words(word) {
+        return out.push_str("the hexadecimal of a request is one word, without spaces");
+    }
+    if bad_hex(out, "the request", word)? {
+        return out.push_str("\nexamples/guests/request.sh makes the line of a request");
+    }
+    let text = bytes_of(*out.allocator(), word)?;
     request_hint(out, text.as_slice())
 }
+
+const NO_BLOCKS: &str =
+    "a play file has no blocks of guests: each line `request` makes a guest, which runs the module";
 
 /// A line where requests stand, which is no request.
 fn no_request(out: &mut String, line: &[u8]) -> Result<(), AllocError> {
@@ -157,9 +168,7 @@ fn no_request(out: &mut String, line: &[u8]) -> Result<(), AllocError> {
         );
     }
     if line.starts_with(b"guest") {
-        return out.push_str(
-            "a play file has no blocks of guests: each line `request` makes a guest, which runs the module",
-        );
+        return out.push_str(NO_BLOCKS);
     }
     out.push_str(
         "here stands `request` and the bytes of a request in hexadecimal, or the line `steps`; examples/guests/request.sh makes the line of a request",
@@ -181,6 +190,9 @@ fn schedule_hint(out: &mut String, spot: &PlaySpot<'_>) -> Result<(), AllocError
     if spot.line.starts_with(b"request") {
         return out.push_str("requests stand before the line `steps`");
     }
+    if spot.line.starts_with(b"guest") {
+        return out.push_str(NO_BLOCKS);
+    }
     let there = Spot {
         line: spot.line,
         number: spot.number,
@@ -194,9 +206,20 @@ fn schedule_hint(out: &mut String, spot: &PlaySpot<'_>) -> Result<(), AllocError
     step_hint(out, &there)
 }
 
-/// The line is the last one as it is to be, but for its line feed.
-fn is_unended(spot: &PlaySpot<'_>) -> bool {
-    !spot.ended && spot.part == PlayPart::Steps && spot.line == b"end".as_slice()
+/// Why the last line, which has no line feed, isn't whole.
+fn unended_hint(spot: &PlaySpot<'_>) -> &'static str {
+    if spot.part == PlayPart::Steps && spot.line == b"end".as_slice() {
+        "the last line has no line feed at its end"
+    } else {
+        "the file ends in this line, which has no line feed at its end: was it cut off?"
+    }
+}
+
+/// The first line of another kind of file.
+fn is_other_head(spot: &PlaySpot<'_>) -> bool {
+    spot.part == PlayPart::Head
+        && !spot.line.starts_with(b"edge-play")
+        && !b"edge-play".starts_with(spot.line)
 }
 
 /// The hint for a line whose bytes are in order.
@@ -215,8 +238,11 @@ fn line_hint(out: &mut String, spot: &PlaySpot<'_>) -> Result<(), AllocError> {
     if spot.part == PlayPart::Over {
         return out.push_str("nothing can follow the line `end`, not even an empty line");
     }
-    if is_unended(spot) {
-        return out.push_str("the last line has no line feed at its end");
+    if is_other_head(spot) {
+        return head_hint(out, spot.line);
+    }
+    if !spot.ended {
+        return out.push_str(unended_hint(spot));
     }
     if spot.line.is_empty() {
         return out.push_str("the line is empty; a play file has no empty lines");
@@ -245,14 +271,11 @@ pub fn play_hint(out: &mut String, bytes: &[u8], number: usize) -> Result<(), Al
     }
     let spot = play_spot_at(bytes, number);
     if !spot.exists {
-        return too_short(out, spot.part);
+        write!(out, "there is no line {number}: ")?;
+        return out.push_str(too_short(spot.part));
     }
     write!(out, "line {number}: ")?;
     quote(out, spot.line)?;
     out.push('\n')?;
-    line_hint(out, &spot)?;
-    if !spot.ended && !is_unended(&spot) {
-        out.push_str("\nthe file ends there, without a line feed: was it cut off?")?;
-    }
-    Ok(())
+    line_hint(out, &spot)
 }

@@ -56,6 +56,27 @@ pub fn encoded(bytes: &[u8]) -> Option<&'static str> {
     None
 }
 
+/// How a file of settings begins.
+const SETTINGS: [&str; 7] = [
+    "manifest_version",
+    "name =",
+    "description =",
+    "authors =",
+    "language =",
+    "[local_server",
+    "# This file describes a Fastly Compute package",
+];
+
+/// Settings; told by their first bytes.
+pub fn is_settings(bytes: &[u8]) -> bool {
+    for front in SETTINGS {
+        if bytes.starts_with(front.as_bytes()) {
+            return true;
+        }
+    }
+    false
+}
+
 /// Two spaces stand side by side.
 fn has_two_spaces(line: &[u8]) -> bool {
     let mut before = b'x';
