@@ -7,8 +7,8 @@ use std::fmt::Write;
 use wasm_code::{ReadFault, ReadKind};
 use wasm_validate::{Part, ValidFault, ValidKind};
 use why_texts::{
-    float_name, function_of, has_custom, instruction_at, later_form, later_opcode, leb_at,
-    section_name, section_of, show_number,
+    float_name, function_of, has_custom, instruction_at, is_settings, later_form, later_opcode,
+    leb_at, section_name, section_of, show_number,
 };
 
 /// A file that is no core module at all; told by its first bytes.
@@ -32,15 +32,17 @@ fn other_file(bytes: &[u8]) -> Option<&'static str> {
     }
     if bytes.starts_with(b"edge-play ") {
         return Some(
-            "this is a play file, not a module: the names are in the order MODULE SETTINGS RUN",
+            "this is a play file, not a module: `./edge play` takes its files in the order MODULE SETTINGS RUN",
         );
     }
     if bytes.starts_with(b"edge-journal ") {
-        return Some("this is a journal, what `./edge script` writes, not a module");
-    }
-    if bytes.starts_with(b"[local_server") || bytes.starts_with(b"manifest_version") {
         return Some(
-            "these are settings, not a module: the names are in the order MODULE SETTINGS RUN",
+            "this is a journal, what `./edge script` and `./edge play` write, not a module",
+        );
+    }
+    if is_settings(bytes) {
+        return Some(
+            "these are settings, not a module: `./edge play` takes its files in the order MODULE SETTINGS RUN",
         );
     }
     if bytes.starts_with(b"\x1f\x8b") || bytes.starts_with(b"PK") {
