@@ -6,13 +6,16 @@ use crate::notes::run_notes;
 use crate::played::{Played, play};
 use crate::scene::scene_of;
 use crate::svg::draw_svg;
+use play_files::{PlayFile, read_play};
 use run_files::{RunFault, read_run};
 use std::alloc::AllocError;
-use why_texts::run_hint;
+use std::fmt::Write;
+use why_texts::{play_hint, run_hint};
 
 #[derive(Clone, Copy, PartialEq, Eq)]
 pub enum Command {
     Script,
+    Play,
     Check,
     Draw,
     DrawSvg,
@@ -33,6 +36,7 @@ pub fn command_of(words: &[String]) -> Option<(Command, &str)> {
     match words {
         [word, name] => match word.as_str() {
             "script" => Some((Command::Script, name.as_str())),
+            "play" => Some((Command::Play, name.as_str())),
             "check" => Some((Command::Check, name.as_str())),
             "draw" => Some((Command::Draw, name.as_str())),
             _ => None,
@@ -91,6 +95,28 @@ fn run_answer(out: &mut String, command: Command, bytes: &[u8]) -> Result<(), Al
     }
 }
 
+/// What a good play file has; what its guests do only a module says.
+fn play_notes(out: &mut String, file: &PlayFile) -> Result<(), AllocError> {
+    let guests = file.requests.items().len();
+    let steps = file.steps.items().len();
+    write!(
+        out,
+        "a good play file: nothing stands in its way; requests {guests}, steps {steps}\n"
+    )
+}
+
+/// The answer to a play file.
+fn play_answer(out: &mut String, bytes: &[u8]) -> Result<(), AllocError> {
+    match read_play(*out.allocator(), bytes) {
+        Err(RunFault::OutOfMemory) => Err(AllocError),
+        Err(RunFault::Line(line)) => {
+            play_hint(out, bytes, line as usize)?;
+            out.push('\n')
+        }
+        Ok(file) => play_notes(out, &file),
+    }
+}
+
 /// The answer to a module.
 fn module_answer(out: &mut String, bytes: &[u8]) -> Result<(), AllocError> {
     if !module_hint(out, bytes)? {
@@ -106,6 +132,7 @@ fn module_answer(out: &mut String, bytes: &[u8]) -> Result<(), AllocError> {
 pub fn answer(out: &mut String, command: Command, bytes: &[u8]) -> Result<(), AllocError> {
     match command {
         Command::Check => module_answer(out, bytes),
+        Command::Play => play_answer(out, bytes),
         _ => run_answer(out, command, bytes),
     }
 }

@@ -1,4 +1,5 @@
-//! The program `edge_why`: says in plain words why `edge` refused a run file or a module, and draws what a run did.
+//! The program `edge_why`: says in plain words why `edge` refused a run file, a play file or a module, and draws what a
+//! run did.
 //!
 //! It decides nothing: run files, play files, journals and modules are read by the libraries that `edge` stands on, a run is
 //! played by the very call that `edge` makes, and a guest's answer is the function of its block that the contracts speak of.
@@ -25,7 +26,7 @@ use std::process::ExitCode;
 use std::{env, io};
 
 const USAGE: &str =
-    "usage: edge why script RUN | check MODULE | draw RUN [--svg] | answers PLAY JOURNAL";
+    "usage: edge why script RUN | play RUN | check MODULE | draw RUN [--svg] | answers PLAY JOURNAL";
 
 /// The words behind the program's name.
 fn words(rt: &HostRuntime) -> io::Result<Vec<String>> {

@@ -7,8 +7,8 @@ use std::fmt::Write;
 use wasm_code::{ReadFault, ReadKind};
 use wasm_validate::{Part, ValidFault, ValidKind};
 use why_texts::{
-    float_name, function_of, has_custom, instruction_at, later_form, later_opcode, leb_at,
-    section_name, section_of, show_number,
+    float_name, function_of, has_custom, instruction_at, is_settings, later_form, later_opcode,
+    leb_at, section_name, section_of, show_number,
 };
 
 /// A file that is no core module at all; told by its first bytes.
@@ -30,8 +30,20 @@ fn other_file(bytes: &[u8]) -> Option<&'static str> {
     if bytes.starts_with(b"edge-run ") {
         return Some("this is a run file: `./edge script` runs it");
     }
+    if bytes.starts_with(b"edge-play ") {
+        return Some(
+            "this is a play file, not a module: `./edge play` takes its files in the order MODULE SETTINGS RUN",
+        );
+    }
     if bytes.starts_with(b"edge-journal ") {
-        return Some("this is a journal, what `./edge script` writes, not a module");
+        return Some(
+            "this is a journal, what `./edge script` and `./edge play` write, not a module",
+        );
+    }
+    if is_settings(bytes) {
+        return Some(
+            "these are settings, not a module: `./edge play` takes its files in the order MODULE SETTINGS RUN",
+        );
     }
     if bytes.starts_with(b"\x1f\x8b") || bytes.starts_with(b"PK") {
         return Some("the file is packed (gzip or zip); unpack it first");

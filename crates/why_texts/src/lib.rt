@@ -1,8 +1,9 @@
-//! What stands in a run file or a module, told from the raw bytes in plain words: the hints of the program `edge_why`.
+//! What stands in a run file, a play file or a module, told from the raw bytes in plain words: the hints of the program
+//! `edge_why`.
 //!
-//! Nothing here decides what is right. A run file is read by `run_files`, a module by `edge_modules`; where one of them
-//! refused, the bytes are looked at again, for what a person would want to know. So a hint may be wrong, and a verdict
-//! can't be.
+//! Nothing here decides what is right. A run file is read by `run_files`, a play file by `play_files`, a module by
+//! `edge_modules`; where one of them refused, the bytes are looked at again, for what a person would want to know. So a
+//! hint may be wrong, and a verdict can't be.
 #![tactic(auto)]
 
 mod bodies;
@@ -10,6 +11,9 @@ mod calls;
 mod opcodes;
 mod options;
 mod places;
+mod play_spot;
+mod plays;
+mod requests;
 mod runs;
 mod spelling;
 mod spot;
@@ -18,6 +22,7 @@ mod text;
 pub use bodies::instruction_at;
 pub use opcodes::{float_name, later_form, later_opcode};
 pub use places::{Section, function_of, has_custom, leb_at, section_name, section_of};
-pub use runs::run_hint;
+pub use plays::play_hint;
+pub use runs::{is_settings, run_hint};
 pub use spot::{Part, Spot, spot_at};
 pub use text::{is_text, nearest, quote, show_hex, show_number, show_value};

@@ -7,7 +7,8 @@ use crate::text::{quote, show_number};
 use std::alloc::AllocError;
 use std::fmt::Write;
 
-const MOST_BYTES: usize = 67_108_864;
+/// The most bytes of a run file, and of a play file.
+pub const MOST_BYTES: usize = 67_108_864;
 
 /// A file of another kind; told by its first bytes.
 fn other_file(bytes: &[u8]) -> Option<&'static str> {
@@ -26,11 +27,21 @@ fn other_file(bytes: &[u8]) -> Option<&'static str> {
             "this is a journal, what `./edge script` writes, not a run file; a run file begins with `edge-run 1`",
         );
     }
-    if bytes.starts_with(b"edge-play ") || bytes.starts_with(b"edge-batch ") {
+    if bytes.starts_with(b"edge-play ") {
+        return Some(
+            "this is a play file, of the guests of a module: `./edge play MODULE SETTINGS RUN` plays it; a run file begins with `edge-run 1`",
+        );
+    }
+    if bytes.starts_with(b"edge-batch ") {
         return Some(
             "this is a file for a command that isn't there yet; a run file begins with `edge-run 1`",
         );
     }
+    encoded(bytes)
+}
+
+/// A text in another coding, or a packed one; told by its first bytes.
+pub fn encoded(bytes: &[u8]) -> Option<&'static str> {
     if bytes.starts_with(b"\xef\xbb\xbf") {
         return Some(
             "the file begins with a byte order mark (EF BB BF), which editors don't show: save it as UTF-8 without one, or `tail -c +4 OLD > NEW`",
@@ -43,6 +54,27 @@ fn other_file(bytes: &[u8]) -> Option<&'static str> {
         return Some("the file is packed by gzip; unpack it first");
     }
     None
+}
+
+/// How a file of settings begins.
+const SETTINGS: [&str; 7] = [
+    "manifest_version",
+    "name =",
+    "description =",
+    "authors =",
+    "language =",
+    "[local_server",
+    "# This file describes a Fastly Compute package",
+];
+
+/// Settings; told by their first bytes.
+pub fn is_settings(bytes: &[u8]) -> bool {
+    for front in SETTINGS {
+        if bytes.starts_with(front.as_bytes()) {
+            return true;
+        }
+    }
+    false
 }
 
 /// Two spaces stand side by side.
@@ -58,7 +90,7 @@ fn has_two_spaces(line: &[u8]) -> bool {
 }
 
 /// The place of the first byte that stands in no line, counted from 1.
-fn odd_byte(line: &[u8]) -> Option<(usize, u8)> {
+pub fn odd_byte(line: &[u8]) -> Option<(usize, u8)> {
     let mut place = 0usize;
     for byte in line {
         place = place.saturating_add(1);
@@ -70,7 +102,7 @@ fn odd_byte(line: &[u8]) -> Option<(usize, u8)> {
 }
 
 /// What is wrong with the line's blanks and with bytes that an editor may not show.
-fn unseen(line: &[u8]) -> Option<&'static str> {
+pub fn unseen(line: &[u8]) -> Option<&'static str> {
     if line.ends_with(b"\r") {
         return Some(
             "the line ends with a carriage return (0D), which editors don't show: the file has the line ends of Windows. `tr -d '\\r' < OLD > NEW` mends it",
@@ -168,7 +200,7 @@ fn bad_guest(
     Ok(true)
 }
 
-fn step_hint(out: &mut String, spot: &Spot<'_>) -> Result<(), AllocError> {
+pub fn step_hint(out: &mut String, spot: &Spot<'_>) -> Result<(), AllocError> {
     if spot.steps >= 1_000_000 && spot.line != b"end".as_slice() {
         return out.push_str("this is step 1,000,001; there can be 1,000,000");
     }

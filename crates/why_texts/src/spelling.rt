@@ -14,6 +14,7 @@ enum Class {
     LowerHexadecimal,
     NotUpper,
     Name,
+    Token,
 }
 
 fn is_of(class: Class, byte: u8) -> bool {
@@ -25,6 +26,7 @@ fn is_of(class: Class, byte: u8) -> bool {
         Class::Name => byte.is_ascii_lowercase()
             || byte.is_ascii_digit()
             || b"!#$%&'*+-.^_`|~".contains(&byte),
+        Class::Token => byte.is_ascii_alphanumeric() || b"!#$%&'*+-.^_`|~".contains(&byte),
     }
 }
 
@@ -36,6 +38,18 @@ fn are_all(class: Class, word: &[u8]) -> bool {
         }
     }
     true
+}
+
+/// A method, or a header's name in any case.
+pub fn is_token(word: &[u8]) -> bool {
+    !word.is_empty() && are_all(Class::Token, word)
+}
+
+/// Hexadecimal digits, and spaces.
+pub fn are_hex_words(words: &[u8]) -> bool {
+    words
+        .iter()
+        .all(|byte| *byte == b' ' || is_of(Class::Hexadecimal, *byte))
 }
 
 pub fn begins_with_digit(word: &[u8]) -> bool {
@@ -55,8 +69,11 @@ pub fn hex_len(word: &[u8]) -> usize {
 }
 
 fn lower_case(out: &mut String, word: &[u8]) -> Result<(), AllocError> {
-    for byte in word.iter().take(60) {
+    for byte in word.iter().take(90) {
         out.push(char::from(byte.to_ascii_lowercase()))?;
+    }
+    if word.len() > 90 {
+        out.push_str(" ..")?;
     }
     Ok(())
 }
