@@ -1,5 +1,5 @@
 -- A guest behind the reply to its call, and one that is stopped.
-use Rattle.std.proofs.Common.{◌≡◌, ◌∙◌, ℕ, ◌+◌, ◌≤◌, true, false, Bool, List, [], ◌∷◌, ◌++◌, Option, None, Some, refl, ap, sym, arith, vec_len, vec_capacity, append_assoc}
+use Rattle.std.proofs.Common.{◌≡◌, ◌∙◌, ◌+◌, ◌≤◌, true, false, Bool, List, [], ◌∷◌, ◌++◌, Option, None, Some, refl, ap, sym, arith, vec_len, vec_capacity, append_assoc}
 use Rattle.std.specs.Prelude.{Vec}
 use Rattle.std.specs.declared.alloc.Global.{Global}
 use Rattle.cache_types.specs.declared.calls.CacheCall.TheVariants.{Begin, End}
@@ -14,6 +14,7 @@ use Rattle.player.specs.May.{MayAnswer}
 use Rattle.guest_calls.specs.declared.call.Call.{Call}
 use Rattle.guest_calls.specs.declared.rows.Under.{Under}
 use Rattle.guest_calls.specs.declared.tables.GuestTables.{GuestTables}
+use Rattle.guest_run.specs.declared.life.Left.{Left}
 use Rattle.guest_run.specs.declared.life.Pause.{Pause}
 use Rattle.guest_run.specs.declared.life.Pause.TheVariants.{Waiting, Ending}
 use Rattle.guest_run.specs.declared.guest.Guest.{Guest}
@@ -46,28 +47,30 @@ over_more why next [] a = (refl, refl)
 over_more why next (x ∷ trace) a = (refl, refl)
 
 -- a waiting row is a hearing one behind its reply
-hears : (calls : List Call) (next : Program) (trace : List Answered) (fuel : ℕ) (asked : OuterCall) (under : Under) (reply : OuterReply) (machine : Machine) (t : GuestTables) → IsWaiting calls (behind next trace) fuel asked under machine t
-    → IsHearing calls (behind next (trace ++ record { call = asked; reply = reply } ∷ [])) fuel under reply machine t
-hears calls next trace fuel asked under reply machine t h = record {
+hears : (calls : List Call) (next : Program) (trace : List Answered) (left : Left) (asked : OuterCall) (under : Under) (reply : OuterReply) (machine : Machine) (t : GuestTables) → IsWaiting calls (behind next trace) left asked under machine t
+    → IsHearing calls (behind next (trace ++ record { call = asked; reply = reply } ∷ [])) left under reply machine t
+hears calls next trace left asked under reply machine t h = record {
   code = h.code;
   place = h.place;
   state = h.state;
+  entries = h.entries;
   bound = h.bound;
   enough = h.enough;
   answered = h.answered;
+  follow = h.follow;
   numbers = h.numbers;
   waits = h.waits;
   goes = λ replies. behind_more next trace (record { call = asked; reply = reply }) replies ∙ h.goes reply replies;
 }
 
-hears_in : (calls : List Call) (next : Program) (trace : List Answered) (fuel : ℕ) (asked : OuterCall) (under : Under) (reply : OuterReply) (machine : Option Machine) (t : GuestTables)
-    → InMachine machine (λ m. IsWaiting calls (behind next trace) fuel asked under m t) → InMachine machine (λ m. IsHearing calls (behind next (trace ++ record { call = asked; reply = reply } ∷ [])) fuel under reply m t)
-hears_in calls next trace fuel asked under reply None t h = h
-hears_in calls next trace fuel asked under reply (Some m) t h = hears calls next trace fuel asked under reply m t h
+hears_in : (calls : List Call) (next : Program) (trace : List Answered) (left : Left) (asked : OuterCall) (under : Under) (reply : OuterReply) (machine : Option Machine) (t : GuestTables)
+    → InMachine machine (λ m. IsWaiting calls (behind next trace) left asked under m t) → InMachine machine (λ m. IsHearing calls (behind next (trace ++ record { call = asked; reply = reply } ∷ [])) left under reply m t)
+hears_in calls next trace left asked under reply None t h = h
+hears_in calls next trace left asked under reply (Some m) t h = hears calls next trace left asked under reply m t h
 
-no_end_in : (calls : List Call) (meaning : Program) (fuel : ℕ) (asked : OuterCall) (under : Under) (machine : Option Machine) (t : GuestTables) → InMachine machine (λ m. IsWaiting calls meaning fuel asked under m t) → is_end_call (Some asked) ≡ false
-no_end_in calls meaning fuel asked under None t h = absurd h
-no_end_in calls meaning fuel asked under (Some m) t h = row_no_end asked h.may
+no_end_in : (calls : List Call) (meaning : Program) (left : Left) (asked : OuterCall) (under : Under) (machine : Option Machine) (t : GuestTables) → InMachine machine (λ m. IsWaiting calls meaning left asked under m t) → is_end_call (Some asked) ≡ false
+no_end_in calls meaning left asked under None t h = absurd h
+no_end_in calls meaning left asked under (Some m) t h = row_no_end asked h.may
 
 module _ (g : Guest) (next : Program) (reply : OuterReply) where
   pub answered : (phase : Phase) (trace : List Answered) (now : Phase) (events : Vec Event Global)
@@ -82,9 +85,9 @@ module _ (g : Guest) (next : Program) (reply : OuterReply) where
         events = noted.0 ∙ ap (λ (l : List Event). l ++ event_with (call.Cache Begin) reply ∷ []) (has ∙ ap events_of plays.no_calls);
         room = omega (arith, noted.1, capacity);
       })
-  answered (Alive (Waiting fuel asked under)) trace now events may plays has room heard =
+  answered (Alive (Waiting left asked under)) trace now events may plays has room heard =
       rw (heard.0, heard.1) (record {
-        phase = (record { begun = begun_more trace _; stopped = plays.0.stopped; ended = no_end_in _ _ fuel asked under g.machine g.tables plays.1 }, hears_in _ next trace fuel asked under reply g.machine g.tables plays.1);
+        phase = (record { begun = begun_more trace _; stopped = plays.0.stopped; ended = no_end_in _ _ left asked under g.machine g.tables plays.1 }, hears_in _ next trace left asked under reply g.machine g.tables plays.1);
         events = (trace, refl, has);
         room = room;
       })
@@ -105,7 +108,7 @@ module _ (g : Guest) (next : Program) (reply : OuterReply) where
         room = omega (arith, noted.1, capacity);
       })
   answered Begun trace now events may plays has room heard = absurd may
-  answered (Heard fuel asked under other) trace now events may plays has room heard = absurd may
+  answered (Heard left asked under other) trace now events may plays has room heard = absurd may
   answered (Over outcome) trace now events may plays has room heard = absurd may
 
 pub given_true : (given : Bool) (phase : Phase) (reply : OuterReply) → MayAnswer (waits_in given phase) reply → given ≡ true
@@ -118,8 +121,8 @@ over_again None ended was why next (x ∷ trace) h = (h.1, refl)
 over_again (Some other) ended was why next (x ∷ trace) h = (h.0, refl)
 
 pub pause_needs : (given : Bool) (pause : Pause) → 1 ≤ needs_pause given pause
-pause_needs true (Waiting fuel asked under) = omega arith
-pause_needs false (Waiting fuel asked under) = omega arith
+pause_needs true (Waiting left asked under) = omega arith
+pause_needs false (Waiting left asked under) = omega arith
 pause_needs given (Ending outcome) = omega arith
 
 module _ (g : Guest) (next : Program) (why : Outcome) where
@@ -134,7 +137,7 @@ module _ (g : Guest) (next : Program) (why : Outcome) where
   stopped_with (Alive pause) trace now events plays has room after =
       let some = pause_needs g.given pause in
       rw (after.0, after.1) (record { phase = (plays.0.begun, refl, plays.0.ended); events = has; room = omega arith })
-  stopped_with (Heard fuel asked under reply) trace now events plays has room after =
+  stopped_with (Heard left asked under reply) trace now events plays has room after =
       let noted = after.1.noted (omega arith) in
       let capacity = after.1.capacity in
       rw after.0 (record {
@@ -153,5 +156,5 @@ over_events g (Over outcome) trace over has = has
 over_events g New trace over has = cc over
 over_events g Begun trace over has = cc over
 over_events g (Alive pause) trace over has = cc over
-over_events g (Heard fuel asked under reply) trace over has = cc over
+over_events g (Heard left asked under reply) trace over has = cc over
 over_events g (Stopping outcome) trace over has = cc over

@@ -51,18 +51,18 @@ same_call : (call : Option Call) (arguments : List Value) (left : ℕ) (s : Stat
 same_call None arguments left s t one other replies same = refl
 same_call (Some call) arguments left s t one other replies same = same_told (row_of call arguments t (memory_in s) replies) left s one other same
 
-same_ending : (calls : List Call) (ending : Ending) (left : ℕ) (s : State) (t : GuestTables) (one other : Goes_on) (replies : List OuterReply) → ((x : ℕ) (arguments : List Value) → ending ≡ Called x arguments → SameOn left one other)
-    → after_ending calls ending left s t one replies ≡ after_ending calls ending left s t other replies
-same_ending calls Returned left s t one other replies same = refl
-same_ending calls OutOfFuel left s t one other replies same = refl
-same_ending calls (Stopped (Trap kind)) left s t one other replies same = refl
-same_ending calls (Stopped Stuck) left s t one other replies same = refl
-same_ending calls (Called x arguments) left s t one other replies same = same_call (slice_get calls x) arguments left s t one other replies (same x arguments refl)
+same_ending : (calls : List Call) (back : Goes_on) (ending : Ending) (left : ℕ) (s : State) (t : GuestTables) (one other : Goes_on) (replies : List OuterReply) → ((x : ℕ) (arguments : List Value) → ending ≡ Called x arguments → SameOn left one other)
+    → after_ending calls back ending left s t one replies ≡ after_ending calls back ending left s t other replies
+same_ending calls back Returned left s t one other replies same = refl
+same_ending calls back OutOfFuel left s t one other replies same = refl
+same_ending calls back (Stopped (Trap kind)) left s t one other replies same = refl
+same_ending calls back (Stopped Stuck) left s t one other replies same = refl
+same_ending calls back (Called x arguments) left s t one other replies same = same_call (slice_get calls x) arguments left s t one other replies (same x arguments refl)
 
-pub same_live : (one other : ℕ) (code : Code) (calls : List Call) (fuel : ℕ) (s : State) (t : GuestTables) (replies : List OuterReply) → fuel < one → fuel < other → live one code calls fuel s t replies ≡ live other code calls fuel s t replies
-same_live zero other code calls fuel s t replies low high = absurd (omega (arith, low))
-same_live (suc one) zero code calls fuel s t replies low high = absurd (omega (arith, high))
-same_live (suc one) (suc other) code calls fuel s t replies low high =
+pub same_live : (one other : ℕ) (code : Code) (calls : List Call) (back : Goes_on) (fuel : ℕ) (s : State) (t : GuestTables) (replies : List OuterReply) → fuel < one → fuel < other → live one code calls back fuel s t replies ≡ live other code calls back fuel s t replies
+same_live zero other code calls back fuel s t replies low high = absurd (omega (arith, low))
+same_live (suc one) zero code calls back fuel s t replies low high = absurd (omega (arith, high))
+same_live (suc one) (suc other) code calls back fuel s t replies low high =
     let e = runs fuel code s in
-    same_ending calls e.ending e.left e.state t (live one code calls) (live other code calls) replies
-    (λ x arguments is s' t' replies'. let less = runs_calls fuel code s x arguments is in same_live one other code calls e.left s' t' replies' (omega (arith, low, less)) (omega (arith, high, less)))
+    same_ending calls back e.ending e.left e.state t (live one code calls back) (live other code calls back) replies
+    (λ x arguments is s' t' replies'. let less = runs_calls fuel code s x arguments is in same_live one other code calls back e.left s' t' replies' (omega (arith, low, less)) (omega (arith, high, less)))

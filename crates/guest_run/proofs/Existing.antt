@@ -1,4 +1,4 @@
--- A linked module has a beginning: its instance is a trap, or its start function is defined and takes nothing.
+-- A linked module has a beginning: its instance is a trap, or each function that begins is defined and takes nothing.
 use Rattle.std.specs.Prelude.{◌≡◌, ℕ, ◌+◌, Bool, true, false, ◌&&◌, List, [], ◌∷◌, ◌++◌, codes, bytes_eq, slice_get, refl, Option, None, Some, is_some, option_map, if◌then◌else◌, Result, Ok, Err}
 use Rattle.std.specs.List.{find, filter_map}
 use Rattle.std.proofs.Common.{ap, sym, subst, ◌∙◌, zero, suc}
@@ -14,12 +14,11 @@ use Rattle.wasm_types.specs.declared.modules.Module.{Module}
 use Rattle.wasm_types.specs.Nested.{Body as Nested}
 use Rattle.wasm_types.specs.Types.{same_result, same_types}
 use Rattle.wasm_validate.specs.Spaces.{functions_in}
-use Rattle.wasm_validate.specs.Valid.{IsValid}
+use Rattle.wasm_validate.specs.Valid.{IsValid, IsStart}
 use Rattle.wasm_meaning.specs.declared.off.Off.{Off}
 use Rattle.wasm_meaning.specs.declared.off.Off.TheVariants.{Trap, Stuck}
-use Rattle.wasm_meaning.specs.Frames.{Function}
-use Rattle.wasm_meaning.specs.Runs.{first}
-use Rattle.wasm_meaning.specs.Instance.{Instance, IsFunctionImport, AllFunctions, AreImported, AreDefined, instance_of}
+use Rattle.wasm_meaning.specs.Frames.{Program as Code, Function}
+use Rattle.wasm_meaning.specs.Instance.{Instance, IsProgram, IsFunctionImport, AllFunctions, AreImported, AreDefined, instance_of}
 use Rattle.module_machine.proofs.Programs.{program_of}
 use Rattle.edge_imports.specs.declared.hostcall.Hostcall.{Hostcall}
 use Rattle.edge_imports.specs.declared.hostcall.Hostcall.TheVariants.{AbiInit}
@@ -29,7 +28,8 @@ use Rattle.edge_imports.specs.Table.{row_of}
 use Rattle.edge_imports.specs.Links.{LinkedModule, call_of, imported_type, type_at, function_types, is_plain, is_start, is_function, is_wrong, is_unknown, first_from, start_of, has_memory, links_of, with_start, with_types, with_calls, linked}
 use Rattle.edge_imports.proofs.Indexes.{all-known}
 use Rattle.guest_run.specs.declared.service.Service.{Service}
-use Rattle.guest_run.specs.Origins.{Origin, Begins, Faults, IsOrigin}
+use Rattle.guest_run.specs.Next.{Entry}
+use Rattle.guest_run.specs.Origins.{Origin, Begins, Faults, IsOrigin, IsEntry, AreEntries, starts_from}
 use Rattle.guest_run.specs.Services.{IsServiceOf}
 use Rattle.guest_run.proofs.Linking.{and_true, not_false, first_passes, all_typed, known_function, IsHead, head_of, one_of_call}
 
@@ -163,28 +163,52 @@ plain_function ts n k (i ∷ imports) us cs fs gs known right are defined x plai
 
 -- ---- the origin
 
+-- indices name the same functions in validation and in linking
+abbrev imported_types : List Import → List ℕ
+imported_types imports = filter_map (λ (i : Import). imported_type i.kind) imports
+
+same_with : (kind : ImportKind) (i : Import) (imports : List Import) → i.kind ≡ kind → functions_in imports ≡ imported_types imports → functions_in (i ∷ imports) ≡ imported_types (i ∷ imports)
+same_with (kinds.Function t) i imports is same = rw is (ap (λ (us : List ℕ). t ∷ us) same)
+same_with (kinds.Table l) i imports is same = rw is same
+same_with (kinds.Memory l) i imports is same = rw is same
+same_with (kinds.Global g) i imports is same = rw is same
+
+same_spaces : (imports : List Import) → functions_in imports ≡ imported_types imports
+same_spaces [] = refl
+same_spaces (i ∷ imports) = same_with i.kind i imports refl (same_spaces imports)
+
+-- the start function of a valid module is plain
+plain_kind : (kind : FuncType) → kind.params ≡ [] → kind.result ≡ None → is_plain (Some kind) ≡ true
+plain_kind kind none nothing = rw (none, nothing) refl
+
+valid_plain : (m : Module) (f : ℕ) → IsStart m (Some f) → is_plain (type_at m.types (slice_get (function_types m) f)) ≡ true
+valid_plain m f (t, kind, of, is, none, nothing) =
+    let there : slice_get (function_types m) f ≡ Some t = subst (λ (us : List ℕ). slice_get (us ++ m.functions) f ≡ Some t) (same_spaces m.imports) of in
+    subst (λ (o : Option ℕ). is_plain (type_at m.types o) ≡ true) (sym there) (subst (λ (o : Option FuncType). is_plain o ≡ true) (sym is) (plain_kind kind none nothing))
+
+module _ (l : LinkedModule) (service : Service) (is : IsServiceOf l service) (i : Instance) (code : Code) (program : IsProgram l.whole i code) where
+  -- a function without parameters and result begins
+  entry_of : (x : ℕ) → is_plain (type_at l.whole.types (slice_get (function_types l.whole) x)) ≡ true → (e : Entry) × IsEntry code x e
+  entry_of x plain =
+      let m = l.whole in
+      let f = plain_function m.types 0 0 m.imports m.functions m.code program.imported program.defined (all-known m l.links is.linked_is) (all_typed m l.links is.linked_is) program.imports program.code x plain in (
+        record { function = f.function; body = f.body },
+        record { found = ap (λ (fs : List Function). slice_get fs x) program.functions ∙ f.at; takes_nothing = f.takes_nothing; defined = f.has },
+      )
+
+  last_entry : (e : Entry) × IsEntry code l.links.start e
+  last_entry = entry_of l.links.start (start_plain l.whole l.links.start (starts_at l.whole l.links is.linked_is))
+
+  entries_of : (start : Option ℕ) → IsStart l.whole start → (entries : List Entry) × AreEntries code (starts_from start l.links.start) entries
+  entries_of None valid = (last_entry.0 ∷ [], (last_entry.1, tt))
+  entries_of (Some f) valid = let e = entry_of f (valid_plain l.whole f valid) in (e.0 ∷ last_entry.0 ∷ [], (e.1, (last_entry.1, tt)))
+
 begins_of : (l : LinkedModule) (service : Service) → IsServiceOf l service → (i : Instance) → instance_of l.whole ≡ Ok i → (origin : Origin) × IsOrigin l.whole l.links.start origin
 begins_of l service is i started =
     let m = l.whole in
     let w = program_of m i is.image.ready.one_count is.image.valid is.image.imports in
-    let code = w.0 in
-    let program = w.1 in
-    let plain = start_plain m l.links.start (starts_at m l.links is.linked_is) in
-    let f = plain_function m.types 0 0 m.imports m.functions m.code program.imported program.defined (all-known m l.links is.linked_is) (all_typed m l.links is.linked_is) program.imports program.code l.links.start plain in
-    let found : slice_get code.functions l.links.start ≡ Some f.function = ap (λ (fs : List Function). slice_get fs l.links.start) program.functions ∙ f.at in (
-      Begins code (first f.function f.body i.world),
-      record {
-        begun = i;
-        instance_is = started;
-        program = program;
-        function = f.function;
-        body = f.body;
-        found = found;
-        takes_nothing = f.takes_nothing;
-        defined = f.has;
-        state_is = refl;
-      },
-    )
+    let entries = entries_of l service is i w.0 w.1 m.start is.image.valid.start in
+    (Begins w.0 entries.0 i.world, record { begun = i; instance_is = started; program = w.1; entries_are = entries.1; world_is = refl })
 
 -- the instance of a valid module is one, or a trap
 abbrev pub NeverStuck : Type 0

@@ -1,5 +1,5 @@
 -- The turn that a guest offers.
-use Rattle.std.proofs.Common.{◌≡◌, ◌∙◌, ℕ, ◌+◌, ◌≤◌, true, false, Bool, List, [], ◌∷◌, ◌++◌, append-nil, Option, None, Some, Ok, refl, ap, sym, subst, arith, vec_len, vec_capacity}
+use Rattle.std.proofs.Common.{◌≡◌, ◌∙◌, ◌+◌, ◌≤◌, true, false, Bool, List, [], ◌∷◌, ◌++◌, append-nil, Option, None, Some, Ok, refl, ap, sym, subst, arith, vec_len, vec_capacity}
 use Rattle.std.specs.Prelude.{Result, Vec, IsTrue, ◌||◌}
 use Rattle.std.specs.declared.alloc.Global.{Global}
 use Rattle.std.specs.declared.alloc.AllocError.{AllocError}
@@ -18,6 +18,7 @@ use Rattle.player.specs.May.{MayTake, IsStopAfter, is_empty}
 use Rattle.guest_calls.specs.declared.call.Call.{Call}
 use Rattle.guest_calls.specs.declared.rows.Under.{Under}
 use Rattle.guest_calls.specs.declared.tables.GuestTables.{GuestTables}
+use Rattle.guest_run.specs.declared.life.Left.{Left}
 use Rattle.guest_run.specs.declared.life.Pause.{Pause}
 use Rattle.guest_run.specs.declared.life.Pause.TheVariants.{Waiting, Ending}
 use Rattle.guest_run.specs.declared.guest.Guest.{Guest}
@@ -32,12 +33,12 @@ use Rattle.guest_run.proofs.RowCalls.{row_may}
 same_turn : (next : Program) (trace : List Answered) (t : Turn) → behind next trace [] ≡ t → t ≡ next (replies_of trace)
 same_turn next trace t h = sym h ∙ ap next (simp append-nil)
 
-asks_in : (calls : List Call) (meaning : Program) (fuel : ℕ) (asked : OuterCall) (under : Under) (machine : Option Machine) (t : GuestTables) → InMachine machine (λ m. IsWaiting calls meaning fuel asked under m t) → meaning [] ≡ turn.Outer asked
-asks_in calls meaning fuel asked under None t h = absurd h
-asks_in calls meaning fuel asked under (Some m) t h = h.asks
+asks_in : (calls : List Call) (meaning : Program) (left : Left) (asked : OuterCall) (under : Under) (machine : Option Machine) (t : GuestTables) → InMachine machine (λ m. IsWaiting calls meaning left asked under m t) → meaning [] ≡ turn.Outer asked
+asks_in calls meaning left asked under None t h = absurd h
+asks_in calls meaning left asked under (Some m) t h = h.asks
 
 pause_asks : (g : Guest) (pause : Pause) (meaning : Program) → PausePlays g pause meaning → meaning [] ≡ turn.Outer (call_of_pause pause)
-pause_asks g (Waiting fuel asked under) meaning h = asks_in _ meaning fuel asked under g.machine g.tables h
+pause_asks g (Waiting left asked under) meaning h = asks_in _ meaning left asked under g.machine g.tables h
 pause_asks g (Ending outcome) meaning h = h []
 
 -- a pause is offered
@@ -88,9 +89,9 @@ module _ (g : Guest) (next : Program) (trace : List Answered) where
         room = omega arith;
       }
 
-  pub heard_offers : (fuel : ℕ) (asked : OuterCall) (under : Under) (reply : OuterReply) (now : Guest) (result : Result Pause AllocError) → GuestPlays (record g { phase = Heard fuel asked under reply }) next trace → IsSame g now → IsNoted g.events asked reply now.events
-      → ((meaning : Program) → InMachine g.machine (λ machine. IsHearing g.service.now.calls.items meaning fuel under reply machine g.tables) → ComesTo now result meaning) → Offers now result next trace
-  heard_offers fuel asked under reply now result plays same noted comes =
+  pub heard_offers : (left : Left) (asked : OuterCall) (under : Under) (reply : OuterReply) (now : Guest) (result : Result Pause AllocError) → GuestPlays (record g { phase = Heard left asked under reply }) next trace → IsSame g now → IsNoted g.events asked reply now.events
+      → ((meaning : Program) → InMachine g.machine (λ machine. IsHearing g.service.now.calls.items meaning left under reply machine g.tables) → ComesTo now result meaning) → Offers now result next trace
+  heard_offers left asked under reply now result plays same noted comes =
       let room = plays.room in
       let more = noted.noted (omega arith) in
       let has = plays.events in
@@ -155,9 +156,9 @@ begun_full : (trace : List Answered) → IsBegun trace → is_empty trace ≡ fa
 begun_full [] h = absurd h
 begun_full (x ∷ trace) h = refl
 
-waiting_may : (g : Guest) (trace : List Answered) (meaning : Program) (fuel : ℕ) (asked : OuterCall) (under : Under) (machine : Option Machine) → GoesOn g trace → InMachine machine (λ m. IsWaiting g.service.now.calls.items meaning fuel asked under m g.tables) → MayTake trace g.ended g.stopped (turn.Outer asked)
-waiting_may g trace meaning fuel asked under None on h = absurd h
-waiting_may g trace meaning fuel asked under (Some m) on h = (on.ended, row_may trace asked (begun_full trace on.begun) h.may h.unlinked)
+waiting_may : (g : Guest) (trace : List Answered) (meaning : Program) (left : Left) (asked : OuterCall) (under : Under) (machine : Option Machine) → GoesOn g trace → InMachine machine (λ m. IsWaiting g.service.now.calls.items meaning left asked under m g.tables) → MayTake trace g.ended g.stopped (turn.Outer asked)
+waiting_may g trace meaning left asked under None on h = absurd h
+waiting_may g trace meaning left asked under (Some m) on h = (on.ended, row_may trace asked (begun_full trace on.begun) h.may h.unlinked)
 
 end_may : (trace : List Answered) (ended : Bool) (stopped : Option Outcome) → IsBegun trace → ended ≡ false → MayTake trace ended stopped (turn.Outer (call.Cache End))
 end_may trace ended stopped begun is = rw (begun_full trace begun) (is, (refl, refl))
@@ -173,9 +174,9 @@ over_may (Some why) ended how next trace h = or_true ended
 pub may_take : (g : Guest) (next : Program) (trace : List Answered) (result : Turn) (phase : Phase) → PhasePlays g phase next trace → turn_of phase ≡ Some result → MayTake trace g.ended g.stopped result
 may_take g next trace result New plays is = let same : turn.Outer (call.Cache Begin) ≡ result = cc in subst (MayTake trace g.ended g.stopped) same (rw plays.no_calls (plays.ended, (refl, refl)))
 may_take g next trace result Begun plays is = cc is
-may_take g next trace result (Alive (Waiting fuel asked under)) plays is = let same : turn.Outer asked ≡ result = cc in subst (MayTake trace g.ended g.stopped) same (waiting_may g trace (behind next trace) fuel asked under g.machine plays.0 plays.1)
+may_take g next trace result (Alive (Waiting left asked under)) plays is = let same : turn.Outer asked ≡ result = cc in subst (MayTake trace g.ended g.stopped) same (waiting_may g trace (behind next trace) left asked under g.machine plays.0 plays.1)
 may_take g next trace result (Alive (Ending outcome)) plays is = let same : turn.Outer (call.Cache End) ≡ result = cc in subst (MayTake trace g.ended g.stopped) same (end_may trace g.ended g.stopped plays.0.begun plays.0.ended)
-may_take g next trace result (Heard fuel asked under reply) plays is = cc is
+may_take g next trace result (Heard left asked under reply) plays is = cc is
 may_take g next trace result (Stopping why) plays is = let same : turn.Outer (call.Cache End) ≡ result = cc in subst (MayTake trace g.ended g.stopped) same (end_may trace g.ended g.stopped plays.0 plays.2)
 may_take g next trace result (Over how) plays is = let same : turn.Over how ≡ result = cc in subst (MayTake trace g.ended g.stopped) same (over_may g.stopped g.ended how next trace plays)
 
@@ -183,7 +184,7 @@ pub waits_told : (phase : Phase) (result : Turn) → turn_of phase ≡ Some resu
 waits_told New result is = let same : turn.Outer (call.Cache Begin) ≡ result = cc in ap call_in same
 waits_told Begun result is = cc is
 waits_told (Alive pause) result is = let same : turn.Outer (call_of_pause pause) ≡ result = cc in ap call_in same
-waits_told (Heard fuel asked under reply) result is = cc is
+waits_told (Heard left asked under reply) result is = cc is
 waits_told (Stopping why) result is = let same : turn.Outer (call.Cache End) ≡ result = cc in ap call_in same
 waits_told (Over how) result is = let same : turn.Over how ≡ result = cc in ap call_in same
 
@@ -191,7 +192,7 @@ pub over_told : (phase : Phase) (result : Turn) → turn_of phase ≡ Some resul
 over_told New result is = let same : turn.Outer (call.Cache Begin) ≡ result = cc in ap is_over same
 over_told Begun result is = cc is
 over_told (Alive pause) result is = let same : turn.Outer (call_of_pause pause) ≡ result = cc in ap is_over same
-over_told (Heard fuel asked under reply) result is = cc is
+over_told (Heard left asked under reply) result is = cc is
 over_told (Stopping why) result is = let same : turn.Outer (call.Cache End) ≡ result = cc in ap is_over same
 over_told (Over how) result is = let same : turn.Over how ≡ result = cc in ap is_over same
 

@@ -47,7 +47,7 @@ ended_of g = g.ended
 -- ---- turns
 
 abbrev pub call_of_pause : Pause → OuterCall
-call_of_pause (Waiting fuel call under) = call
+call_of_pause (Waiting left call under) = call
 call_of_pause (Ending outcome) = call.Cache End
 
 -- what is told in a phase, where something is
@@ -114,7 +114,7 @@ pub record GoesOn (g : Guest) (trace : List Answered) : Type 0 where
 
 -- a pause says what the program does from there on; one that ended needs no machine
 abbrev pub PauseIn : List Call → Pause → Option Machine → GuestTables → Program → Type 0
-PauseIn calls (Waiting fuel call under) machine t meaning = InMachine machine (λ m. IsWaiting calls meaning fuel call under m t)
+PauseIn calls (Waiting left call under) machine t meaning = InMachine machine (λ m. IsWaiting calls meaning left call under m t)
 PauseIn calls (Ending outcome) machine t meaning = IsEnding meaning outcome
 
 abbrev pub PausePlays : Guest → Pause → Program → Type 0
@@ -133,27 +133,27 @@ abbrev pub PhasePlays : Guest → Phase → Program → List Answered → Type 0
 PhasePlays g New next trace = IsFresh g next trace
 PhasePlays g Begun next trace = GoesOn g trace × IsBeginning g.service.now g.tables (behind next trace)
 PhasePlays g (Alive pause) next trace = GoesOn g trace × PausePlays g pause (behind next trace)
-PhasePlays g (Heard fuel call under reply) next trace =
-    GoesOn g trace × InMachine g.machine (λ machine. IsHearing g.service.now.calls.items (behind next trace) fuel under reply machine g.tables)
+PhasePlays g (Heard left call under reply) next trace =
+    GoesOn g trace × InMachine g.machine (λ machine. IsHearing g.service.now.calls.items (behind next trace) left under reply machine g.tables)
 PhasePlays g (Stopping outcome) next trace = IsBegun trace × (g.stopped ≡ Some outcome) × (g.ended ≡ false)
 PhasePlays g (Over outcome) next trace = IsOver g.stopped g.ended outcome next trace
 
 -- the events so far: those noted, and that of a reply that was heard
 abbrev pub HasEvents : Guest → Phase → List Answered → Type 0
-HasEvents g (Heard fuel call under reply) trace =
+HasEvents g (Heard left call under reply) trace =
     (before : List Answered) × (trace ≡ before ++ record { call = call; reply = reply } ∷ []) × (g.events.items ≡ events_of before)
 HasEvents g _ trace = g.events.items ≡ events_of trace
 
 -- room for so many events is kept, so that answers take no memory: that of the call which waits, and that of End
 abbrev pub needs_pause : Bool → Pause → ℕ
-needs_pause given (Waiting fuel call under) = if given then 2 else 1
+needs_pause given (Waiting left call under) = if given then 2 else 1
 needs_pause given (Ending outcome) = 1
 
 abbrev pub needs : Bool → Phase → ℕ
 needs given New = if given then 2 else 0
 needs given Begun = 1
 needs given (Alive pause) = needs_pause given pause
-needs given (Heard fuel call under reply) = 2
+needs given (Heard left call under reply) = 2
 needs given (Stopping outcome) = 1
 needs given (Over outcome) = 0
 
@@ -172,7 +172,7 @@ pub record IsNoted {A : Type 0} (old : Vec Event A) (asked : OuterCall) (reply :
 
 -- the phase and the events behind the reply to the phase's call
 abbrev pub IsHeardPause : {A : Type 0} → Pause → OuterReply → Vec Event A → Phase → Vec Event A → Type 0
-IsHeardPause (Waiting fuel call under) reply old phase new = (phase ≡ Heard fuel call under reply) × (new ≡ old)
+IsHeardPause (Waiting left call under) reply old phase new = (phase ≡ Heard left call under reply) × (new ≡ old)
 IsHeardPause (Ending outcome) reply old phase new = (phase ≡ Over outcome) × IsNoted old (call.Cache End) reply new
 
 abbrev pub IsHeard : {A : Type 0} → Phase → OuterReply → Vec Event A → Phase → Vec Event A → Type 0
@@ -186,7 +186,7 @@ abbrev pub IsStopped : {A : Type 0} → Phase → Outcome → Vec Event A → Ph
 IsStopped New outcome old phase new = (phase ≡ Over outcome) × (new ≡ old)
 IsStopped Begun outcome old phase new = (phase ≡ Stopping outcome) × (new ≡ old)
 IsStopped (Alive pause) outcome old phase new = (phase ≡ Stopping outcome) × (new ≡ old)
-IsStopped (Heard fuel call under reply) outcome old phase new = (phase ≡ Stopping outcome) × IsNoted old call reply new
+IsStopped (Heard left call under reply) outcome old phase new = (phase ≡ Stopping outcome) × IsNoted old call reply new
 IsStopped (Stopping before) outcome old phase new = (phase ≡ Stopping outcome) × (new ≡ old)
 IsStopped (Over before) outcome old phase new = (phase ≡ Over outcome) × (new ≡ old)
 

@@ -2,5 +2,4 @@ pub mod Next
 pub mod Origins
 pub mod Services
 pub mod Lives
-pub mod Beginnings
 pub mod Guests

@@ -1,5 +1,6 @@
--- What a module guest does next when it was given these replies: its code runs with the fuel of the whole run, each call of an
--- import is the row that it is, and no state is kept between two calls but by playing again from the start.
+-- What a module guest does next when it was given these replies: the functions of its code that begin run one after another,
+-- with the fuel of the whole run, each call of an import is the row that it is, and no state is kept between two calls but by
+-- playing again from the start.
 use Rattle.std.specs.Prelude.{ℕ, zero, suc, List, [], ◌∷◌, Option, None, Some, slice_get}
 use Rattle.cache_types.specs.declared.calls.CacheCall.TheVariants.{End}
 use Rattle.cache_types.specs.declared.outer.OuterCall.TheVariants as call
@@ -11,10 +12,12 @@ use Rattle.wasm_types.specs.declared.values.TrapKind.{TrapKind}
 use Rattle.wasm_types.specs.declared.values.TrapKind.TheVariants as kind
 use Rattle.wasm_types.specs.declared.values.Value.{Value}
 use Rattle.wasm_types.specs.declared.values.Value.TheVariants.{I32}
+use Rattle.wasm_types.specs.Nested.{Body}
 use Rattle.wasm_memory.specs.Linear.{Linear, blank}
 use Rattle.wasm_meaning.specs.declared.off.Off.TheVariants as off
-use Rattle.wasm_meaning.specs.Frames.{Program as Code, State}
-use Rattle.wasm_meaning.specs.Runs.{Ending, Ended, Returned, Stopped, Called, OutOfFuel, runs, resumed}
+use Rattle.wasm_meaning.specs.World.{World}
+use Rattle.wasm_meaning.specs.Frames.{Program as Code, Function, State}
+use Rattle.wasm_meaning.specs.Runs.{Ending, Ended, Returned, Stopped, Called, OutOfFuel, first, runs, resumed}
 use Rattle.module_machine.specs.Standing.{in_memory}
 use Rattle.edge_abi.specs.Told.{Told, Wants, Gives, After, Answer, Number, Code as Exits}
 use Rattle.player.specs.declared.turn.Turn.{Turn}
@@ -68,19 +71,36 @@ abbrev pub after_call : Option Call → List Value → ℕ → State → GuestTa
 after_call None arguments left s t goes replies = ends (outcome.Trapped number.Unreachable) replies
 after_call (Some call) arguments left s t goes replies = after_row (row_of call arguments t (memory_in s) replies) left s goes
 
--- behind a run of the code; valid code is never stuck
-abbrev pub after_ending : List Call → Ending → ℕ → State → GuestTables → Goes_on → Program
-after_ending calls Returned left s t goes replies = ends outcome.Returned replies
-after_ending calls (Stopped (off.Trap kind)) left s t goes replies = ends (outcome.Trapped (trap_number kind)) replies
-after_ending calls (Stopped off.Stuck) left s t goes replies = ends (outcome.Trapped number.Unreachable) replies
-after_ending calls OutOfFuel left s t goes replies = ends outcome.OutOfFuel replies
-after_ending calls (Called x arguments) left s t goes replies = after_call (slice_get calls x) arguments left s t goes replies
+-- behind a run of the code, which may go on behind its return and behind a call; valid code is never stuck
+abbrev pub after_ending : List Call → Goes_on → Ending → ℕ → State → GuestTables → Goes_on → Program
+after_ending calls back Returned left s t goes replies = back left s t replies
+after_ending calls back (Stopped (off.Trap kind)) left s t goes replies = ends (outcome.Trapped (trap_number kind)) replies
+after_ending calls back (Stopped off.Stuck) left s t goes replies = ends (outcome.Trapped number.Unreachable) replies
+after_ending calls back OutOfFuel left s t goes replies = ends outcome.OutOfFuel replies
+after_ending calls back (Called x arguments) left s t goes replies = after_call (slice_get calls x) arguments left s t goes replies
 
-abbrev pub after_run : List Call → Ended → GuestTables → Goes_on → Program
-after_run calls e t goes replies = after_ending calls e.ending e.left e.state t goes replies
+abbrev pub after_run : List Call → Goes_on → Ended → GuestTables → Goes_on → Program
+after_run calls back e t goes replies = after_ending calls back e.ending e.left e.state t goes replies
 
 -- Code that is run with so much fuel, of which what is left behind a call is all that follows has. A call costs a unit, so a
 -- bound above the fuel is never reached.
-abbrev pub live : ℕ → Code → List Call → Goes_on
-live zero code calls fuel s t replies = ends outcome.OutOfFuel replies
-live (suc bound) code calls fuel s t replies = after_run calls (runs fuel code s) t (λ left s' t' replies'. live bound code calls left s' t' replies') replies
+abbrev pub live : ℕ → Code → List Call → Goes_on → Goes_on
+live zero code calls back fuel s t replies = ends outcome.OutOfFuel replies
+live (suc bound) code calls back fuel s t replies = after_run calls back (runs fuel code s) t (λ left s' t' replies'. live bound code calls back left s' t' replies') replies
+
+-- ---- functions, one after another
+
+-- a function that begins with nothing
+pub record Entry : Type 0 where
+  pub function : Function
+  pub body : Body
+
+-- Each begins where the one before returned, in the world that it left and with what fuel is left; to begin costs none. The
+-- program ends behind the last one.
+abbrev pub in_turn : Code → List Call → List Entry → ℕ → World → GuestTables → Program
+in_turn code calls [] left w t replies = ends outcome.Returned replies
+in_turn code calls (e ∷ es) left w t replies = live (suc left) code calls (λ left' s t' replies'. in_turn code calls es left' s.world t' replies') left (first e.function e.body w) t replies
+
+-- how code goes on behind its return, where these begin then
+abbrev pub begins : Code → List Call → List Entry → Goes_on
+begins code calls entries left s t replies = in_turn code calls entries left s.world t replies

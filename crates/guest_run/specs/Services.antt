@@ -13,7 +13,7 @@ use Rattle.guest_calls.specs.Rows.{first_tables}
 use Rattle.guest_run.specs.declared.service.Service.{Service}
 use Rattle.guest_run.specs.declared.service.ServiceFault.{ServiceFault}
 use Rattle.guest_run.specs.declared.service.ServiceFault.TheVariants.{NotStanding, OutOfMemory}
-use Rattle.guest_run.specs.Origins.{Origin, IsOrigin, next}
+use Rattle.guest_run.specs.Origins.{Origin, IsOrigin, starts_from, next}
 
 abbrev pub with_call : Option Call → Option (List Call) → Option (List Call)
 with_call (Some call) (Some calls) = Some (call ∷ calls)
@@ -37,6 +37,10 @@ settings_in service = service.settings.now
 
 abbrev pub random_in : Service → List ℕ
 random_in service = service.random
+
+-- the functions with which the code of each of its guests begins
+abbrev pub starts_in : Service → List ℕ
+starts_in service = starts_from service.linked.now.whole.start service.linked.now.links.start
 
 -- the service of a linked module, whose calls stand
 pub record IsServiceOf (l : LinkedModule) (service : Service) : Type 0 where

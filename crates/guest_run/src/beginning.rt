@@ -1,17 +1,28 @@
 //! The instance of a guest, and the beginning of its code.
-ghost use Rattle.std.specs.Prelude.{◌≡◌, Some, IfOk};
+ghost use Rattle.std.specs.Prelude.{◌≡◌, ◌∷◌, Some, IfOk};
 ghost use Rattle.player.specs.Plays.{Program};
-ghost use Rattle.guest_run.specs.Lives.{IsPaused};
-ghost use Rattle.guest_run.specs.Beginnings.{StartsIn};
+ghost use Rattle.guest_run.specs.Services.{starts_in};
+ghost use Rattle.guest_run.specs.Lives.{IsNext, IsPaused, listed};
 ghost use Rattle.guest_run.specs.Guests.{IsBeginning, IsSame, ComesTo};
 
 use crate::guest::Guest;
-use crate::life::{Pause, live_on};
+use crate::life::{Left, Pause, live_on};
 use crate::service::Service;
 use cache_types::{Outcome, TrapNumber};
 use guest_calls::GuestTables;
 use module_machine::{Machine, NewFault};
 use std::alloc::{AllocError, Global};
+
+/// The function with which the code begins, and the one that follows where it returns.
+fn starts(service: &Service) -> (u32, Option<u32>)
+    ensures { result.0 ∷ listed result.1 ≡ starts_in service.now }
+{
+    let start = service.linked.start();
+    match service.linked.valid().module().start {
+        Some(function) => (function, Some(start)),
+        None => (start, None),
+    }
+}
 
 /// Starts the code, and runs it until its program is to make an outer call.
 fn begin(
@@ -20,17 +31,15 @@ fn begin(
     machine: &mut Machine,
     tables: &mut GuestTables,
 ) -> Result<Pause, AllocError>
-    ensures { (meaning : Program) → StartsIn service.now meaning machine.old tables.old → IfOk result (λ pause. IsPaused service.now.calls.items meaning pause machine.new tables.new) }
+    ensures { (meaning : Program) → IsNext service.now.calls.items meaning service.now.fuel (starts_in service.now) machine.old tables.old → IfOk result (λ pause. IsPaused service.now.calls.items meaning pause machine.new tables.new) }
 {
-    let function = service.linked.start();
+    let (function, follows) = starts(service);
     machine.start(function)?;
-    live_on(
-        alloc,
-        service.calls.as_slice(),
-        machine,
-        tables,
-        service.fuel,
-    )
+    let left = Left {
+        fuel: service.fuel,
+        follows,
+    };
+    live_on(alloc, service.calls.as_slice(), machine, tables, left)
 }
 
 fn set_machine<'a>(place: &mut Option<Machine<'a>>, machine: Machine<'a>)

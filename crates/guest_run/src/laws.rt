@@ -8,7 +8,7 @@ ghost use Rattle.player.specs.Plays.{Program};
 ghost use Rattle.guest_calls.specs.declared.call.Call.{Call as ACall};
 ghost use Rattle.guest_calls.specs.declared.tables.GuestTables.{GuestTables as Tables};
 ghost use Rattle.guest_run.specs.declared.service.Service.{Service as AService};
-ghost use Rattle.guest_run.specs.Next.{live};
+ghost use Rattle.guest_run.specs.Next.{Goes_on, live};
 ghost use Rattle.guest_run.specs.Services.{fuel_in, settings_in, random_in, IsServiceOf, IsGuestProgram};
 
 use wasm_sound::valid_modules_start_typed;
@@ -22,5 +22,5 @@ pub fn each_guest_has_a_program()
 
 /// The bound of the definition is never reached: each above the fuel gives the same.
 pub fn fuel_is_enough()
-    ensures { (one other : ℕ) (code : Code) (calls : List ACall) (fuel : ℕ) (s : State) (t : Tables) (replies : List OuterReply) → fuel < one → fuel < other → live one code calls fuel s t replies ≡ live other code calls fuel s t replies }
+    ensures { (one other : ℕ) (code : Code) (calls : List ACall) (back : Goes_on) (fuel : ℕ) (s : State) (t : Tables) (replies : List OuterReply) → fuel < one → fuel < other → live one code calls back fuel s t replies ≡ live other code calls back fuel s t replies }
 {}

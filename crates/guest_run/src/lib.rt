@@ -2,8 +2,9 @@
 //!
 //! What a guest does next is a function of the replies given to it (`next` of `specs/Origins.antt`, over `live` of
 //! `specs/Next.antt`): Begin, then what its code does with the fuel of the whole run, each call of an import being the row that
-//! it is, then End. It is fixed by the module, the settings, the seed, the guest's number, the fuel and the request alone. A
-//! [`Guest`] promises what every `Player` does, for that program.
+//! it is, then End. The code is the module's start function, where it has one, and then `_start`. It is fixed by the module, the
+//! settings, the seed, the guest's number, the fuel and the request alone. A [`Guest`] promises what every `Player` does, for
+//! that program.
 //!
 //! Which calls of imports there are is `guest_calls`'s to say: a [`Service`] exists only of a module whose calls all stand, so
 //! nothing here answers a call that doesn't stand yet.

@@ -4,8 +4,9 @@ ghost use Rattle.wasm_types.specs.declared.values.Value.TheVariants.{I32};
 ghost use Rattle.module_machine.specs.Standing.{memory_of, with_memory};
 ghost use Rattle.player.specs.Plays.{Program};
 ghost use Rattle.guest_calls.specs.declared.call.Call.{Call};
+ghost use Rattle.guest_calls.specs.declared.tables.GuestTables.{GuestTables};
 ghost use Rattle.guest_run.specs.Next.{trap_number, memory_or};
-ghost use Rattle.guest_run.specs.Lives.{IsGoing, IsCalling, IsHearing, IsPaused, LivesOn, HasFuel, HasLess, IsAfterRow};
+ghost use Rattle.guest_run.specs.Lives.{IsNext, IsGoing, IsCalling, IsHearing, IsPaused, LivesOn, HasLeft, HasLess, IsAfterRow, listed};
 
 use cache_types::{Outcome, OuterCall, OuterReply, TrapNumber};
 use edge_abi::Step;
@@ -15,12 +16,20 @@ use std::alloc::{AllocError, Global};
 use wasm_memory::Memory;
 use wasm_types::{TrapKind, Value};
 
+/// What code has left that runs or waits.
+#[derive(Clone, Copy)]
+pub struct Left {
+    pub fuel: u64,
+    /// The function that begins where the code returns.
+    pub follows: Option<u32>,
+}
+
 /// Where a program is to make a call.
 #[derive(Drop)]
 pub enum Pause {
-    /// A row waits for the reply to its call; so much fuel is left.
+    /// A row waits for the reply to its call.
     Waiting {
-        fuel: u64,
+        left: Left,
         call: OuterCall,
         under: Under,
     },
@@ -33,8 +42,8 @@ pub enum Pause {
 /// How far a program has come.
 #[derive(Drop)]
 pub enum Life {
-    /// The code is to be run with so much fuel.
-    Going { fuel: u64 },
+    /// The code is to be run.
+    Going { left: Left },
     Paused(Pause),
 }
 
@@ -73,15 +82,15 @@ fn take_memory(alloc: Global, machine: &mut Machine) -> Result<Memory, AllocErro
 }
 
 /// Goes on behind a row.
-fn after_row(machine: &mut Machine, fuel: u64, step: GuestStep) -> Life
-    ensures { IsAfterRow step fuel machine.old result machine.new }
+fn after_row(machine: &mut Machine, left: Left, step: GuestStep) -> Life
+    ensures { IsAfterRow step left machine.old result machine.new }
 {
     match step {
         Step::Done(number) => {
             machine.resume(Some(Value::I32(number)));
-            Life::Going { fuel }
+            Life::Going { left }
         }
-        Step::Outer(call, under) => Life::Paused(Pause::Waiting { fuel, call, under }),
+        Step::Outer(call, under) => Life::Paused(Pause::Waiting { left, call, under }),
     }
 }
 
@@ -90,17 +99,17 @@ fn start_row(
     alloc: Global,
     machine: &mut Machine,
     tables: &mut GuestTables,
-    fuel: u64,
+    left: Left,
     call: RowCall,
     arguments: &[Value],
 ) -> Result<Life, AllocError>
-    ensures lives { (calls : List Call) (meaning : Program) (x : ℕ) → slice_get calls x ≡ Some (Call.Row call) → IsCalling calls meaning fuel x arguments.now machine.old tables.old → IfOk result (λ life. LivesOn calls meaning life machine.new tables.new) }
-    ensures fuel { IfOk result (HasFuel fuel) }
+    ensures lives { (calls : List Call) (meaning : Program) (x : ℕ) → slice_get calls x ≡ Some (Call.Row call) → IsCalling calls meaning left x arguments.now machine.old tables.old → IfOk result (λ life. LivesOn calls meaning life machine.new tables.new) }
+    ensures left { IfOk result (HasLeft left) }
 {
     let mut memory = take_memory(alloc, machine)?;
     let step = row(alloc, call, arguments, tables, &mut memory)?;
     machine.put_memory(Some(memory));
-    Ok(after_row(machine, fuel, step))
+    Ok(after_row(machine, left, step))
 }
 
 /// The call of an import.
@@ -118,15 +127,15 @@ fn call_on(
     alloc: Global,
     machine: &mut Machine,
     tables: &mut GuestTables,
-    fuel: u64,
+    left: Left,
     call: Call,
     arguments: &[Value],
 ) -> Result<Life, AllocError>
-    ensures lives { (calls : List Call) (meaning : Program) (x : ℕ) → slice_get calls x ≡ Some call → IsCalling calls meaning fuel x arguments.now machine.old tables.old → IfOk result (λ life. LivesOn calls meaning life machine.new tables.new) }
-    ensures fuel { IfOk result (HasFuel fuel) }
+    ensures lives { (calls : List Call) (meaning : Program) (x : ℕ) → slice_get calls x ≡ Some call → IsCalling calls meaning left x arguments.now machine.old tables.old → IfOk result (λ life. LivesOn calls meaning life machine.new tables.new) }
+    ensures left { IfOk result (HasLeft left) }
 {
     match call {
-        Call::Row(call) => start_row(alloc, machine, tables, fuel, call, arguments),
+        Call::Row(call) => start_row(alloc, machine, tables, left, call, arguments),
         Call::Exit => Ok(ending(Outcome::Exited(word(arguments, 0)))),
     }
 }
@@ -137,37 +146,59 @@ fn called(
     calls: &[Call],
     machine: &mut Machine,
     tables: &mut GuestTables,
-    fuel: u64,
+    left: Left,
     import: u32,
     arguments: &[Value],
 ) -> Result<Life, AllocError>
-    ensures lives { (meaning : Program) → IsCalling calls.now meaning fuel import arguments.now machine.old tables.old → IfOk result (λ life. LivesOn calls.now meaning life machine.new tables.new) }
-    ensures fuel { IfOk result (HasFuel fuel) }
+    ensures lives { (meaning : Program) → IsCalling calls.now meaning left import arguments.now machine.old tables.old → IfOk result (λ life. LivesOn calls.now meaning life machine.new tables.new) }
+    ensures left { IfOk result (HasLeft left) }
 {
     match call_at(calls, import) {
-        Some(call) => call_on(alloc, machine, tables, fuel, call, arguments),
+        Some(call) => call_on(alloc, machine, tables, left, call, arguments),
         None => Ok(ending(Outcome::Trapped(TrapNumber::Unreachable))),
     }
 }
 
-/// Runs the code to its next call of an import, and starts the row of this call.
+/// Goes on where the code returned: the function that follows begins, with so much fuel, or the program has ended.
+fn returned(machine: &mut Machine, left: Left, fuel: u64) -> Result<Life, AllocError>
+    ensures lives { (calls : List Call) (meaning : Program) (t : GuestTables) → IsNext calls meaning fuel (listed left.follows) machine.old t → IfOk result (λ life. LivesOn calls meaning life machine.new t) }
+    ensures less { IfOk result (HasLess left) }
+{
+    match left.follows {
+        Some(function) => {
+            machine.start(function)?;
+            let left = Left {
+                fuel,
+                follows: None,
+            };
+            Ok(Life::Going { left })
+        }
+        None => Ok(ending(Outcome::Returned)),
+    }
+}
+
+/// Runs the code to its next call of an import, and starts the row of this call; or to its return, and starts what follows.
 fn run_once(
     alloc: Global,
     calls: &[Call],
     machine: &mut Machine,
     tables: &mut GuestTables,
-    fuel: u64,
+    left: Left,
 ) -> Result<Life, AllocError>
-    ensures lives { (meaning : Program) → IsGoing calls.now meaning fuel machine.old tables.old → IfOk result (λ life. LivesOn calls.now meaning life machine.new tables.new) }
-    ensures less { IfOk result (HasLess fuel) }
+    ensures lives { (meaning : Program) → IsGoing calls.now meaning left machine.old tables.old → IfOk result (λ life. LivesOn calls.now meaning life machine.new tables.new) }
+    ensures less { IfOk result (HasLess left) }
 {
-    let (stop, left) = machine.run(fuel);
+    let (stop, rest) = machine.run(left.fuel);
     match stop {
         Stop::HostCall { import, arguments } => {
             // The call took a unit.
-            if fuel <= left {
+            if left.fuel <= rest {
                 return Err(AllocError);
             }
+            let left = Left {
+                fuel: rest,
+                follows: left.follows,
+            };
             called(
                 alloc,
                 calls,
@@ -178,7 +209,7 @@ fn run_once(
                 arguments.items(),
             )
         }
-        Stop::Returned => Ok(ending(Outcome::Returned)),
+        Stop::Returned => returned(machine, left, rest),
         Stop::Trapped(kind) => Ok(ending(Outcome::Trapped(trap_number(kind)))),
         Stop::OutOfFuel => Ok(ending(Outcome::OutOfFuel)),
         Stop::OutOfMemory => Err(AllocError),
@@ -191,14 +222,14 @@ pub fn live_on(
     calls: &[Call],
     machine: &mut Machine,
     tables: &mut GuestTables,
-    fuel: u64,
+    left: Left,
 ) -> Result<Pause, AllocError>
-    ensures { (meaning : Program) → IsGoing calls.now meaning fuel machine.old tables.old → IfOk result (λ pause. IsPaused calls.now meaning pause machine.new tables.new) }
+    ensures { (meaning : Program) → IsGoing calls.now meaning left machine.old tables.old → IfOk result (λ pause. IsPaused calls.now meaning pause machine.new tables.new) }
 {
-    let mut left = fuel;
+    let mut rest = left;
     loop {
-        match run_once(alloc, calls, machine, tables, left)? {
-            Life::Going { fuel } => left = fuel,
+        match run_once(alloc, calls, machine, tables, rest)? {
+            Life::Going { left } => rest = left,
             Life::Paused(pause) => return Ok(pause),
         }
     }
@@ -209,16 +240,16 @@ fn hear(
     alloc: Global,
     machine: &mut Machine,
     tables: &mut GuestTables,
-    fuel: u64,
+    left: Left,
     under: Under,
     reply: &OuterReply,
 ) -> Result<Life, AllocError>
-    ensures { (calls : List Call) (meaning : Program) → IsHearing calls meaning fuel under reply.now machine.old tables.old → IfOk result (λ life. LivesOn calls meaning life machine.new tables.new) }
+    ensures { (calls : List Call) (meaning : Program) → IsHearing calls meaning left under reply.now machine.old tables.old → IfOk result (λ life. LivesOn calls meaning life machine.new tables.new) }
 {
     let mut memory = take_memory(alloc, machine)?;
     let step = goes_on(alloc, tables, &mut memory, under, reply)?;
     machine.put_memory(Some(memory));
-    Ok(after_row(machine, fuel, step))
+    Ok(after_row(machine, left, step))
 }
 
 /// The same, and then with the code until its program is to make an outer call.
@@ -227,14 +258,14 @@ pub fn hear_on(
     calls: &[Call],
     machine: &mut Machine,
     tables: &mut GuestTables,
-    fuel: u64,
+    left: Left,
     under: Under,
     reply: &OuterReply,
 ) -> Result<Pause, AllocError>
-    ensures { (meaning : Program) → IsHearing calls.now meaning fuel under reply.now machine.old tables.old → IfOk result (λ pause. IsPaused calls.now meaning pause machine.new tables.new) }
+    ensures { (meaning : Program) → IsHearing calls.now meaning left under reply.now machine.old tables.old → IfOk result (λ pause. IsPaused calls.now meaning pause machine.new tables.new) }
 {
-    match hear(alloc, machine, tables, fuel, under, reply)? {
-        Life::Going { fuel } => live_on(alloc, calls, machine, tables, fuel),
+    match hear(alloc, machine, tables, left, under, reply)? {
+        Life::Going { left } => live_on(alloc, calls, machine, tables, left),
         Life::Paused(pause) => Ok(pause),
     }
 }

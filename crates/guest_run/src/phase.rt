@@ -1,7 +1,7 @@
 //! Where a guest stands between two of its calls.
 ghost use Rattle.std.specs.Prelude.{◌≡◌};
 
-use crate::life::Pause;
+use crate::life::{Left, Pause};
 use cache_types::{Outcome, OuterCall, OuterReply};
 use guest_calls::Under;
 
@@ -16,7 +16,7 @@ pub enum Phase {
     Alive(Pause),
     /// The reply to a row's call came, and the row hasn't gone on.
     Heard {
-        fuel: u64,
+        left: Left,
         call: OuterCall,
         under: Under,
         reply: OuterReply,

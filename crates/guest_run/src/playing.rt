@@ -8,7 +8,7 @@ ghost use Rattle.guest_run.specs.Guests.{call_of, call_of_pause, waits_in, needs
 
 use crate::beginning::go_begun;
 use crate::guest::Guest;
-use crate::life::{Pause, hear_on};
+use crate::life::{Left, Pause, hear_on};
 use crate::phase::{Phase, set};
 use cache_types::{CacheCall, Copied, Event, Outcome, OuterCall, OuterReply};
 use guest_calls::{Call, GuestTables, Under};
@@ -44,8 +44,8 @@ pub fn heard(phase: Phase, events: &mut Vec<Event>, reply: OuterReply) -> Phase
             note(events, OuterCall::Cache(CacheCall::Begin), reply);
             Phase::Begun
         }
-        Phase::Alive(Pause::Waiting { fuel, call, under }) => Phase::Heard {
-            fuel,
+        Phase::Alive(Pause::Waiting { left, call, under }) => Phase::Heard {
+            left,
             call,
             under,
             reply,
@@ -159,14 +159,14 @@ fn hear_in(
     calls: &[Call],
     machine: &mut Option<Machine>,
     tables: &mut GuestTables,
-    fuel: u64,
+    left: Left,
     under: Under,
     reply: &OuterReply,
 ) -> Result<Pause, AllocError>
-    ensures { (meaning : Program) → InMachine machine.old (λ m. IsHearing calls.now meaning fuel under reply.now m tables.old) → ComesIn calls.now result machine.new tables.new meaning }
+    ensures { (meaning : Program) → InMachine machine.old (λ m. IsHearing calls.now meaning left under reply.now m tables.old) → ComesIn calls.now result machine.new tables.new meaning }
 {
     match machine {
-        Some(machine) => hear_on(alloc, calls, machine, tables, fuel, under, reply),
+        Some(machine) => hear_on(alloc, calls, machine, tables, left, under, reply),
         None => Err(AllocError),
     }
 }
@@ -174,12 +174,12 @@ fn hear_in(
 /// The same of a guest; the event is noted, whatever follows.
 fn go_heard(
     guest: &mut Guest,
-    fuel: u64,
+    left: Left,
     call: OuterCall,
     under: Under,
     reply: OuterReply,
 ) -> Result<Pause, AllocError>
-    ensures comes_to { (meaning : Program) → InMachine guest.old.machine (λ m. IsHearing guest.old.service.now.calls.items meaning fuel under reply m guest.old.tables) → ComesTo guest.new result meaning }
+    ensures comes_to { (meaning : Program) → InMachine guest.old.machine (λ m. IsHearing guest.old.service.now.calls.items meaning left under reply m guest.old.tables) → ComesTo guest.new result meaning }
     ensures noted { IsNoted guest.old.events call reply guest.new.events }
     ensures same { IsSame guest.old guest.new }
 {
@@ -188,7 +188,7 @@ fn go_heard(
         guest.service.calls.as_slice(),
         &mut guest.machine,
         &mut guest.tables,
-        fuel,
+        left,
         under,
         &reply,
     );
@@ -236,15 +236,15 @@ fn advance_alive(guest: &mut Guest, pause: Pause) -> Turn
 /// A guest whose row heard its reply.
 fn advance_heard(
     guest: &mut Guest,
-    fuel: u64,
+    left: Left,
     call: OuterCall,
     under: Under,
     reply: OuterReply,
 ) -> Turn
     ensures tells { Tells guest.old guest.new result }
-    ensures advanced { (next : Program) (trace : List Answered) → GuestPlays (record guest.old { phase = Phase.Heard fuel call under reply }) next trace → IsAdvanced guest.old.stopped guest.new result next trace }
+    ensures advanced { (next : Program) (trace : List Answered) → GuestPlays (record guest.old { phase = Phase.Heard left call under reply }) next trace → IsAdvanced guest.old.stopped guest.new result next trace }
 {
-    let pause = go_heard(guest, fuel, call, under, reply);
+    let pause = go_heard(guest, left, call, under, reply);
     offer(guest, pause)
 }
 
@@ -278,11 +278,11 @@ pub fn advanced(guest: &mut Guest) -> Turn
         Phase::Begun => advance_begun(guest),
         Phase::Alive(pause) => advance_alive(guest, pause),
         Phase::Heard {
-            fuel,
+            left,
             call,
             under,
             reply,
-        } => advance_heard(guest, fuel, call, under, reply),
+        } => advance_heard(guest, left, call, under, reply),
         Phase::Stopping(outcome) => advance_stopping(guest, outcome),
         Phase::Over(outcome) => advance_over(guest, outcome),
     }

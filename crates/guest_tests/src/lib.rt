@@ -11,3 +11,5 @@ mod plays;
 mod rows;
 #[cfg(test)]
 mod scripted;
+#[cfg(test)]
+mod starting;

@@ -5,6 +5,7 @@ use crate::modules::{
     PAST_THE_END, SPINS, TAKES_HANDLES, TRAPS, USES_A_CACHE,
 };
 use crate::playing::{Given, played};
+use crate::starting::{START_ASKS, START_EXITS, START_SPINS, START_TRAPS, STARTS, STARTS_TWICE};
 use cache_types::{Outcome, TrapNumber};
 use std::alloc::Global;
 use std::test::Fail;
@@ -96,6 +97,32 @@ fn guests_take_what_there_is(rt: HostRuntime) -> Result<(), Fail> {
             Outcome::Exited(4_294_967_280),
             2,
         ),
+    ];
+    assert_eq!(rt; first_off(rt.alloc(), &rows), None);
+    Ok(())
+}
+
+/// A start function runs first; `_start` has what it left, of fuel, globals and memory.
+#[test]
+fn start_functions_run(rt: HostRuntime) -> Result<(), Fail> {
+    let unreachable = Outcome::Trapped(TrapNumber::Unreachable);
+    let rows: [Row; 15] = [
+        (STARTS, 12, 0, NEVER, Outcome::Exited(52), 2),
+        (STARTS, 11, 0, NEVER, Outcome::OutOfFuel, 2),
+        (STARTS, 4, 0, NEVER, Outcome::OutOfFuel, 2),
+        (STARTS_TWICE, 18, 0, NEVER, Outcome::Exited(2), 2),
+        (STARTS_TWICE, 17, 0, NEVER, Outcome::OutOfFuel, 2),
+        (START_TRAPS, 1, 0, NEVER, unreachable, 2),
+        (START_TRAPS, 0, 0, NEVER, Outcome::OutOfFuel, 2),
+        (START_SPINS, 1000, 0, NEVER, Outcome::OutOfFuel, 2),
+        (START_EXITS, 2, 0, NEVER, Outcome::Exited(9), 2),
+        (START_ASKS, 10, 42, NEVER, Outcome::Returned, 3),
+        (START_ASKS, 9, 42, NEVER, Outcome::OutOfFuel, 3),
+        (START_ASKS, 4, 42, NEVER, Outcome::OutOfFuel, 3),
+        (START_ASKS, 3, 42, NEVER, Outcome::OutOfFuel, 2),
+        (START_ASKS, 11, 41, NEVER, unreachable, 3),
+        // It is stopped behind the call that its start function makes.
+        (START_ASKS, 10, 42, 2, Outcome::Unscheduled, 3),
     ];
     assert_eq!(rt; first_off(rt.alloc(), &rows), None);
     Ok(())

@@ -7,4 +7,4 @@ returns-in-Some-clause-lives c = λ meaning calling. c.call_on.ensures.lives c.a
 
 pub returns-in-None-clause-lives : goal.returns-in-None-clause-lives
 returns-in-None-clause-lives c = λ meaning calling.
-    rw c.ending.ensures (strays c.args.calls.now meaning c.args.fuel c.args.import c.args.arguments.now c.args.machine.now c.args.tables.now (sym c.in-None.ensures) calling)
+    rw c.ending.ensures (strays c.args.calls.now meaning c.args.left c.args.import c.args.arguments.now c.args.machine.now c.args.tables.now (sym c.in-None.ensures) calling)

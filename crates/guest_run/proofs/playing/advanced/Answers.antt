@@ -17,7 +17,7 @@ returns-in-Alive-clause-advanced c = λ next trace plays.
 
 pub returns-in-Heard-clause-advanced : goal.returns-in-Heard-clause-advanced
 returns-in-Heard-clause-advanced c = λ next trace plays.
-    c.advance_heard.ensures.advanced next trace (at_phase c.args.guest.now (Heard c.in-Heard.fuel c.in-Heard.call c.in-Heard.under c.in-Heard.reply) next trace (sym c.in-Heard.ensures.value) plays)
+    c.advance_heard.ensures.advanced next trace (at_phase c.args.guest.now (Heard c.in-Heard.left c.in-Heard.call c.in-Heard.under c.in-Heard.reply) next trace (sym c.in-Heard.ensures.value) plays)
 
 pub returns-in-Stopping-clause-advanced : goal.returns-in-Stopping-clause-advanced
 returns-in-Stopping-clause-advanced c = λ next trace plays.
