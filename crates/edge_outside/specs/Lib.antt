@@ -10,3 +10,4 @@ pub mod Plan
 pub mod Reads
 pub mod Sink
 pub mod Source
+pub mod MemLink

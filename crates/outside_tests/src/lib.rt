@@ -5,3 +5,5 @@
 mod clocks;
 #[cfg(test)]
 mod fakes;
+#[cfg(test)]
+mod links;
