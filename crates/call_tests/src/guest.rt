@@ -154,3 +154,14 @@ pub fn ask_told(
         _ => Ok(LEFT_OVER),
     }
 }
+
+/// What a call answers with these arguments; `ASKS` where it makes an outer call.
+pub fn ask(
+    alloc: Global,
+    guest: &mut Guest,
+    call: Hostcall,
+    words: &[u32],
+) -> Result<u32, AllocError> {
+    let mut told = Vec::new(alloc);
+    ask_told(alloc, guest, call, words, &[], &mut told)
+}

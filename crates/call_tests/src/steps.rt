@@ -79,7 +79,7 @@ fn first_off(alloc: Global, guest: &mut Guest, steps: &[Do]) -> Result<Option<us
 }
 
 /// The first step of some lists, one behind another, that doesn't come out as told: which list it is in, and its place there.
-fn first_off_of(
+pub fn first_off_of(
     alloc: Global,
     guest: &mut Guest,
     lists: &[&[Do]],
