@@ -155,12 +155,12 @@ module _ (Q : ChunkLine → List ℕ → Type 0) (decides : (l : ChunkLine) (byt
 
 -- the bytes of a chunk of this line, with their end
 abbrev Data : ChunkLine → List ℕ → Type 0
-Data l bytes = Seq (λ data. (chunk_size l ≡ length data) × (0 < length data)) (λ b. b ≡ print_end crlf) bytes
+Data l bytes = Seq (λ piece. (chunk_size l ≡ length piece) × (0 < length piece)) (λ b. b ≡ print_end crlf) bytes
 
 data_decided : (l : ChunkLine) (bytes : List ℕ) → Decided (Data l bytes)
 data_decided l bytes =
-    seq_decided (λ data. (chunk_size l ≡ length data) × (0 < length data)) (λ b. b ≡ print_end crlf)
-    (λ data. both_decided (number_decided (chunk_size l) (length data)) (less_decided 0 (length data)))
+    seq_decided (λ piece. (chunk_size l ≡ length piece) × (0 < length piece)) (λ b. b ≡ print_end crlf)
+    (λ piece. both_decided (number_decided (chunk_size l) (length piece)) (less_decided 0 (length piece)))
     (λ b. text_decided b (print_end crlf)) bytes
 
 chunk_of : (bytes : List ℕ) → Split (Lined Data data_decided) bytes → One IsChunk print_chunk bytes
