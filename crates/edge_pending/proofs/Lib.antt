@@ -1,0 +1,4 @@
+pub mod Gathering
+pub mod Goings
+pub mod Listing
+pub mod Short
