@@ -1,11 +1,16 @@
 //! Handles of which one is chosen.
-ghost use Rattle.std.specs.Prelude.{◌≡◌, ◌≤◌, None, IfOk, length, slice_get};
+ghost use Rattle.std.specs.Prelude.{◌≡◌, ◌≤◌, ◌*◌, Ok, Err, None, false, IfOk, IsTrue, length, slice_get};
+ghost use Rattle.std.specs.List.{list_all};
 ghost use Rattle.wasm_memory.specs.Linear.{Linear};
+ghost use Rattle.edge_abi.specs.declared.asked.Step.TheVariants.{Done};
+ghost use Rattle.edge_abi.specs.declared.status.Refusal.TheVariants.{Told};
+ghost use Rattle.edge_abi.specs.declared.status.Status.TheVariants.{Badf};
 ghost use Rattle.edge_abi.specs.Goes.{Goes};
+ghost use Rattle.edge_abi.specs.Memory.{has_range};
 ghost use Rattle.edge_abi.specs.Refusals.{Judges};
 ghost use Rattle.edge_http_calls.specs.declared.tables.HttpTables.{HttpTables as Messages};
 ghost use Rattle.edge_link.specs.Readings.{Reading, IsReading};
-ghost use Rattle.edge_pending.specs.Choices.{first_kept};
+ghost use Rattle.edge_pending.specs.Choices.{first_kept, is_held, words};
 ghost use Rattle.edge_pending.specs.Rows as spec;
 ghost use Rattle.edge_pending.specs.Tables.{HttpAndPending, both};
 
@@ -32,7 +37,8 @@ fn choose_asked(
     o2: u32,
     o3: u32,
 ) -> Result<Items<u32>, Refusal>
-    ensures { Judges (spec.choose_asked (both http.now tables.now) memory.now p count o1 o2 o3) result }
+    ensures asked { Judges (spec.choose_asked (both http.now tables.now) memory.now p count o1 o2 o3) result }
+    ensures badf { IsTrue (has_range memory.now p (4 * count)) → list_all (is_held tables.now.pending) (words memory.now p count) ≡ false → result ≡ Err (Told Badf) }
 {
     let handles = listed(alloc, &tables.pending, memory, p, count)?;
     placed(memory, o1, 4)?;
@@ -52,7 +58,8 @@ fn select_asked(
     timeout: u32,
     o: u32,
 ) -> Result<Items<u32>, Refusal>
-    ensures { Judges (spec.select_asked tables.now memory.now p count timeout o) result }
+    ensures asked { Judges (spec.select_asked tables.now memory.now p count timeout o) result }
+    ensures badf { IsTrue (has_range memory.now p (4 * count)) → list_all (is_held tables.now.pending) (words memory.now p count) ≡ false → result ≡ Err (Told Badf) }
 {
     let handles = listed(alloc, &tables.pending, memory, p, count)?;
     placed(memory, o, 4)?;
@@ -167,8 +174,9 @@ pub fn http_req_pending_req_select(
     o2: u32,
     o3: u32,
 ) -> Result<PendingStep, AllocError>
-    ensures { (reads : Reading) → IsReading reads
+    ensures row { (reads : Reading) → IsReading reads
         → IfOk result (λ step. Goes (spec.resumed reads) (spec.http_req_pending_req_select reads (both http.old tables.old) memory.old p count o1 o2 o3) step (both http.new tables.new) memory.new) }
+    ensures badf { IsTrue (has_range memory.old p (4 * count)) → list_all (is_held tables.old.pending) (words memory.old p count) ≡ false → result ≡ Ok (Done 3) }
 {
     match choose_asked(alloc, http, tables, memory, p, count, o1, o2, o3) {
         Ok(handles) => chooses(alloc, http, tables, memory, handles, o1, o2, o3),
@@ -236,8 +244,9 @@ pub fn async_select(
     timeout: u32,
     o: u32,
 ) -> Result<PendingStep, AllocError>
-    ensures { (reads : Reading) → IsReading reads
+    ensures row { (reads : Reading) → IsReading reads
         → IfOk result (λ step. Goes (spec.resumed reads) (spec.async_select reads (both http.old tables.old) memory.old p count timeout o) step (both http.new tables.new) memory.new) }
+    ensures badf { IsTrue (has_range memory.old p (4 * count)) → list_all (is_held tables.old.pending) (words memory.old p count) ≡ false → result ≡ Ok (Done 3) }
 {
     match select_asked(alloc, tables, memory, p, count, timeout, o) {
         Ok(handles) => picks(alloc, tables, memory, &handles, o),

@@ -1,6 +1,9 @@
 //! Lists of pending handles in the memory of a guest.
-ghost use Rattle.std.specs.Prelude.{◌≡◌, ◌+◌, ◌*◌, ◌≤◌, ◌<◌, Ok, Err, IfOk, IfErr, IfSome, length, option_copied, slice_get};
+ghost use Rattle.std.specs.Prelude.{◌≡◌, ◌+◌, ◌*◌, ◌≤◌, ◌<◌, Ok, Err, false, IfOk, IfErr, IfSome, IsTrue, length, option_copied, slice_get};
 ghost use Rattle.std.specs.List.{list_all};
+ghost use Rattle.edge_abi.specs.declared.status.Refusal.TheVariants.{Told};
+ghost use Rattle.edge_abi.specs.declared.status.Status.TheVariants.{Badf};
+ghost use Rattle.edge_abi.specs.Memory.{has_range};
 ghost use Rattle.edge_abi.specs.Refusals.{Judges};
 ghost use Rattle.edge_abi.specs.Tables.{held};
 ghost use Rattle.edge_pending.specs.Choices as spec;
@@ -64,7 +67,8 @@ pub fn listed(
     p: u32,
     count: u32,
 ) -> Result<Items<u32>, Refusal>
-    ensures { Judges (spec.listed table.now memory.now p count) result }
+    ensures asked { Judges (spec.listed table.now memory.now p count) result }
+    ensures badf { IsTrue (has_range memory.now p (4 * count)) → list_all (spec.is_held table.now) (spec.words memory.now p count) ≡ false → result ≡ Err (Told Badf) }
 {
     unless(
         memory.is_inside(u64::from(p), 4 * u64::from(count)),

@@ -2,6 +2,8 @@
 ghost use Rattle.std.specs.Prelude.{◌≡◌, Ok, Err, None, is_some, IfOk, IfErr, IsTrue, OnOk};
 ghost use Rattle.wasm_memory.specs.Linear.{Linear};
 ghost use Rattle.edge_abi.specs.declared.asked.Step.TheVariants.{Done};
+ghost use Rattle.edge_abi.specs.declared.status.Refusal.TheVariants.{Told};
+ghost use Rattle.edge_abi.specs.declared.status.Status.TheVariants.{Badf};
 ghost use Rattle.edge_abi.specs.Goes.{Goes};
 ghost use Rattle.edge_abi.specs.Memory as memories;
 ghost use Rattle.edge_abi.specs.Memory.{has_range};
@@ -122,6 +124,8 @@ fn send_asked(
 ) -> Result<Octets, Refusal>
     ensures asked { Judges (spec.send_asked (both http.now tables.now) settings.now memory.now h body p n o1 o2) result }
     ensures address { IfOk result (λ address. IsTrue (is_address address)) }
+    ensures badf { held http.now.requests h ≡ None → result ≡ Err (Told Badf) }
+    ensures unheld { held http.now.bodies body ≡ None → result ≡ Err (Told Badf) }
 {
     let state = named(http, memory, h, body, p, n)?;
     placed(memory, o1, 4)?;
@@ -145,6 +149,8 @@ fn send_async_asked(
 ) -> Result<Octets, Refusal>
     ensures asked { Judges (spec.send_async_asked (both http.now tables.now) settings.now memory.now h body p n o) result }
     ensures address { IfOk result (λ address. IsTrue (is_address address)) }
+    ensures badf { held http.now.requests h ≡ None → result ≡ Err (Told Badf) }
+    ensures unheld { held http.now.bodies body ≡ None → result ≡ Err (Told Badf) }
 {
     let state = named(http, memory, h, body, p, n)?;
     placed(memory, o, 4)?;
@@ -323,6 +329,7 @@ pub fn http_req_send(
     ensures row { (reads : Reading) → IsReading reads
         → IfOk result (λ step. Goes (spec.resumed reads) (spec.http_req_send reads (both http.old tables.old) settings.now memory.old h body p n o1 o2) step (both http.new tables.new) memory.new) }
     ensures badf { held http.old.requests h ≡ None → result ≡ Ok (Done 3) }
+    ensures unheld { held http.old.bodies body ≡ None → result ≡ Ok (Done 3) }
 {
     match send_asked(alloc, http, tables, settings, memory, h, body, p, n, o1, o2) {
         Ok(address) => {
@@ -354,6 +361,7 @@ pub fn http_req_send_async(
     ensures row { (reads : Reading) → IsReading reads
         → IfOk result (λ step. Goes (spec.resumed reads) (spec.http_req_send_async reads (both http.old tables.old) settings.now memory.old h body p n o) step (both http.new tables.new) memory.new) }
     ensures badf { held http.old.requests h ≡ None → result ≡ Ok (Done 3) }
+    ensures unheld { held http.old.bodies body ≡ None → result ≡ Ok (Done 3) }
 {
     match send_async_asked(alloc, http, tables, settings, memory, h, body, p, n, o) {
         Ok(address) => sends(alloc, http, Then::Keep { place: o }, h, body, address),
