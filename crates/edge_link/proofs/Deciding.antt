@@ -123,6 +123,11 @@ of_line bytes o =
       subst (λ (ys : List ℕ). length ys ≤ most_line) (sym o.whole) o.is.1,
     )
 
+digits_decided : (bytes : List ℕ) → Decided (DigitsText bytes)
+digits_decided bytes =
+    same_decided {P = (0 < length bytes) × ((length bytes ≤ 16) × AllPass is_ascii_hexdigit bytes)} (λ e. (e.0, e.1.0, e.1.1)) (λ e. (e.0, (e.1, e.2)))
+    (both_decided (less_decided 0 (length bytes)) (both_decided (most_decided (length bytes) 16) (pass_decided is_ascii_hexdigit bytes)))
+
 line_decided : (bytes : List ℕ) → Decided (One IsShortLine print_chunk_line bytes)
 line_decided bytes =
     same_decided (line_of bytes) (of_line bytes)
@@ -130,7 +135,7 @@ line_decided bytes =
     (seq_decided (Seq (Seq DigitsText (AllPass is_ows)) ExtensionText) (λ b. b ≡ print_end crlf)
     (seq_decided (Seq DigitsText (AllPass is_ows)) ExtensionText
     (seq_decided DigitsText (AllPass is_ows)
-    (λ a. both_decided (less_decided 0 (length a)) (both_decided (most_decided (length a) 16) (pass_decided is_ascii_hexdigit a)))
+    digits_decided
     (pass_decided is_ows))
     extension_decided)
     (λ b. text_decided b (print_end crlf)) bytes)
@@ -259,7 +264,7 @@ given_decided (Counted n) rest = either (most_decided n (length rest)) (λ few. 
 given_decided Chunks rest =
     same_decided
     (λ s. (s.holds.0, (s.first, s.rest, s.holds.1, s.whole)))
-    (λ x. record { first = x.1.0; rest = x.1.1.0; whole = x.1.1.1.1; holds = (x.0, x.1.1.1.0) })
+    (λ x. record { first = x.1.0; rest = x.1.1; whole = x.1.3; holds = (x.0, x.1.2) })
     (split_decided (λ text after. Body text) (λ text after. body_decided text) rest)
 given_decided Wrong rest = inr (λ x. x.1)
 
@@ -291,4 +296,5 @@ pub reading : Reading
 reading method bytes = (read_all method bytes).0
 
 pub reading_is : IsReading reading
+unfolding reading read_all
 reading_is method bytes = (read_all method bytes).1

@@ -124,8 +124,10 @@ module _ {A : Type 0} (Is : A → Type 0) (print : A → List ℕ) (some : (a : 
         whole = whole;
         holds = (
           record { item = i; is = is; whole = refl },
-          (omega (arith, less, some i is, ap (λ (ys : List ℕ). length ys) whole, length-append (print i) (flat_map print items)),
-          record { items = items; each = All-tail Is i items each; whole = refl }),
+          (
+            omega (arith, less, some i is, ap (λ (ys : List ℕ). length ys) whole, length-append (print i) (flat_map print items)),
+            record { items = items; each = All-tail Is i items each; whole = refl },
+          ),
         );
       }
 

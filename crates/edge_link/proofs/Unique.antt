@@ -62,7 +62,7 @@ pub agrees : (reads : Reading) → IsReading reads → (method bytes : List ℕ)
     → (most_body < length bytes → IsErrOf result fault.TooLarge) → (IsErrOf result fault.BadResponse → HasNoResponseTo method bytes)
     → Agrees (reads method bytes) result
 agrees reads is method bytes (Ok found) ok large first bad =
-    read_found method bytes (reads method bytes) found.0 found.1 (is method bytes) ok (not_large method bytes (λ e. first e))
+    read_found method bytes (reads method bytes) found.0 found.1 (is method bytes) ok (not_large method bytes (λ e. cc (first e)))
 agrees reads is method bytes (Err fault.TooLarge) ok large first bad = read_large method bytes (reads method bytes) (is method bytes) (large refl)
 agrees reads is method bytes (Err fault.BadResponse) ok large first bad =
     read_none method bytes (reads method bytes) (is method bytes) (not_large method bytes (λ e. cc (first e))) (bad refl)
