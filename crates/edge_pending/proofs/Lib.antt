@@ -1,4 +1,4 @@
-pub mod Gathering
+pub mod Gathered
 pub mod Goings
 pub mod Listing
 pub mod Short

@@ -6,7 +6,7 @@ use Rattle.edge_abi.specs.Told.{done}
 use Rattle.edge_pending.specs.Gathers.{front_of}
 use Rattle.edge_pending.specs.Rows.{resumed, gathers, goes_front, starts}
 use Rattle.edge_pending.specs.declared.gathering.Front.{Front}
-use Rattle.edge_pending.proofs.Gathering.{goes_front as front_same}
+use Rattle.edge_pending.proofs.Gathered.{goes_front as front_same}
 use Rattle.edge_pending.proofs.Goings.{goes_same}
 use Rattle.edge_pending.proofs.sends.gathers.Goals as goal
 

@@ -2,7 +2,7 @@ use Rattle.std.proofs.lemmas.Result.{IfOk-weaker}
 use Rattle.edge_abi.specs.declared.status.Status.TheVariants as status
 use Rattle.edge_abi.specs.Told.{done}
 use Rattle.edge_pending.specs.Rows.{gathers_on, goes_heard, starts}
-use Rattle.edge_pending.proofs.Gathering.{read_is}
+use Rattle.edge_pending.proofs.Gathered.{read_is}
 use Rattle.edge_pending.proofs.Goings.{goes_same}
 use Rattle.edge_pending.proofs.sends.gathers_on.Goals as goal
 
