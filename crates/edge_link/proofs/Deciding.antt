@@ -1,23 +1,21 @@
 -- There is a reading of all bytes: it is decided which response they hold.
-use Rattle.std.proofs.Common.{◌≡◌, ◌⊎◌, inl, inr, ℕ, zero, suc, ◌+◌, ◌<◌, ◌≤◌, Bool, true, false, List, [], ◌∷◌, ◌++◌, length, take, All, refl, sym, ◌∙◌, ap, subst, arith, append-nil, length-append}
+use Rattle.std.proofs.Common.{◌≡◌, ◌⊎◌, inl, inr, ℕ, zero, suc, ◌+◌, ◌<◌, ◌≤◌, Bool, true, false, List, [], ◌++◌, length, take, refl, sym, ◌∙◌, ap, subst, arith, append-nil, length-append}
 use Rattle.std.specs.Prelude.{Option, None, Some, Result, Ok, Err}
-use Rattle.std.specs.List.{flat_map}
 use Rattle.std.specs.Char.{is_ascii_hexdigit}
 use Rattle.httparse.specs.Ascii.{semicolon}
-use Rattle.httparse.specs.Grammar.{LineEnd, crlf, print_end, AllPass, is_ows, is_extension_byte, ResponseHead, print_response, status_code, ChunkLine, print_extension, IsExtension, chunk_size, print_chunk_line, IsChunkLine}
+use Rattle.httparse.specs.Grammar.{crlf, print_end, AllPass, is_ows, is_extension_byte, ResponseHead, print_response, status_code, ChunkLine, print_extension, IsExtension, chunk_size, print_chunk_line}
 use Rattle.httparse.proofs.GrammarLemmas.{response_unique}
 use Rattle.httparse.proofs.ChunkLemmas.{chunk_line_unique}
 use Rattle.edge_body.specs.Heads.{Response, is_status}
 use Rattle.http_text.specs.Fields.{most_body, most_headers}
 use Rattle.http_text.specs.Chunks.{Chunk, IsChunk, IsShortLine, IsLast as IsEnd, IsChunked, print_chunk, print_chunks, chunks_bytes, most_line}
-use Rattle.edge_link.specs.declared.heads.Head.{Head}
 use Rattle.edge_link.specs.declared.bodies.Told.{Told}
 use Rattle.edge_link.specs.declared.bodies.Told.TheVariants.{Nothing, ToEnd, Counted, Chunks, Wrong}
 use Rattle.edge_link.specs.declared.fault.ResponseFault.{ResponseFault}
 use Rattle.edge_link.specs.declared.fault.ResponseFault.TheVariants as fault
 use Rattle.edge_link.specs.Heads.{head_of, is_interim, IsLed, HasNoLast, HasNoSmallHead, Passes}
 use Rattle.edge_link.specs.Bodies.{told_of, Gives}
-use Rattle.edge_link.specs.Responses.{response_of, IsResponse, HasNoResponseTo}
+use Rattle.edge_link.specs.Responses.{response_of, HasNoResponseTo}
 use Rattle.edge_link.specs.Readings.{Reading, IsRead, IsReading}
 use Rattle.edge_link.proofs.HeadRuns.{no_head, wrong_head, pass_more, passes_none, leads, led_unique, some_bytes}
 use Rattle.edge_link.proofs.Splits.{Decided, either, same_decided, both_decided, true_decided, less_decided, most_decided, number_decided, text_decided, all_decided, Split, split_decided, Seq, seq_decided, joined, One, Several, several_decided}

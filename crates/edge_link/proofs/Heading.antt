@@ -1,12 +1,12 @@
 -- It is decided whether a response's head stands at the front of some bytes.
-use Rattle.std.proofs.Common.{◌≡◌, ◌⊎◌, inl, inr, ℕ, ◌+◌, ◌<◌, ◌≤◌, Bool, IsTrue, List, [], ◌∷◌, ◌++◌, length, All, refl, sym, ◌∙◌, ap, subst, arith, length-append}
+use Rattle.std.proofs.Common.{◌≡◌, ◌⊎◌, inl, inr, ℕ, ◌+◌, ◌<◌, ◌≤◌, Bool, IsTrue, List, [], ◌∷◌, ◌++◌, length, All, refl, ◌∙◌, ap, subst, arith, length-append}
 use Rattle.std.specs.Prelude.{Option, None, Some}
 use Rattle.std.proofs.lemmas.List.Elements.{All-nil, All-cons}
 use Rattle.std.specs.List.{flat_map}
 use Rattle.std.specs.Char.{is_ascii_digit}
 use Rattle.httparse.specs.Ascii.{colon, space}
-use Rattle.httparse.specs.Grammar.{LineEnd, crlf, lf, print_end, print_blank, print_version, Field, print_field, IsField, IsToken, AllPass, is_token_byte, is_value_byte, print_section, ResponseHead, print_reason, reason_phrase, print_response, IsResponseHead, ReadsResponse}
-use Rattle.edge_link.proofs.Splits.{Decided, either, same_decided, both_decided, true_decided, less_decided, number_decided, text_decided, all_decided, Split, split_decided, Seq, seq_decided, joined, One, Several, several_decided}
+use Rattle.httparse.specs.Grammar.{LineEnd, crlf, lf, print_end, print_blank, print_version, Field, print_field, IsField, AllPass, is_token_byte, is_value_byte, print_section, ResponseHead, print_reason, reason_phrase, print_response, IsResponseHead, ReadsResponse}
+use Rattle.edge_link.proofs.Splits.{Decided, either, same_decided, both_decided, true_decided, less_decided, number_decided, text_decided, all_decided, split_decided, Seq, seq_decided, joined, One, Several, several_decided}
 
 pass_decided : (test : ℕ → Bool) (bytes : List ℕ) → Decided (AllPass test bytes)
 pass_decided test bytes = all_decided (λ b. IsTrue (test b)) (λ b. true_decided (test b)) bytes

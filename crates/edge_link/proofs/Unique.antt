@@ -1,10 +1,9 @@
 -- Bytes hold one response to a method at most, so all that reads them right reads the same.
-use Rattle.std.proofs.Common.{◌≡◌, ◌∙◌, ℕ, ◌≤◌, ◌<◌, List, ◌++◌, length, take, refl, sym, ap, subst, arith}
+use Rattle.std.proofs.Common.{◌≡◌, ◌∙◌, ℕ, ◌≤◌, ◌<◌, List, length, refl, sym, ap, subst, arith}
 use Rattle.std.specs.Prelude.{Result, Ok, Err, IfOk, IsErrOf}
 use Rattle.edge_body.specs.Heads.{Response}
 use Rattle.http_text.specs.Fields.{most_body}
 use Rattle.http_text.proofs.ChunkLaws.{chunked_unique}
-use Rattle.edge_link.specs.declared.heads.Head.{Head}
 use Rattle.edge_link.specs.declared.bodies.Told.{Told}
 use Rattle.edge_link.specs.declared.bodies.Told.TheVariants.{Nothing, ToEnd, Counted, Chunks, Wrong}
 use Rattle.edge_link.specs.declared.fault.ResponseFault.{ResponseFault}
