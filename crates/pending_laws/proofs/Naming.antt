@@ -10,6 +10,7 @@ use Rattle.cache_types.specs.declared.outer.OuterReply.TheVariants as reply
 use Rattle.edge_abi.specs.declared.asked.Step.{Step}
 use Rattle.edge_abi.specs.declared.asked.Step.TheVariants.{Done, Outer}
 use Rattle.edge_abi.specs.declared.status.Status.{Status}
+use Rattle.edge_abi.specs.declared.status.Status.TheVariants as status
 use Rattle.edge_abi.specs.declared.status.Refusal.{Refusal}
 use Rattle.edge_abi.specs.declared.status.Refusal.TheVariants as refusal
 use Rattle.edge_abi.specs.Goes.{Goes}
@@ -58,11 +59,7 @@ tame_asks has asked next may after (r ∷ replies) = (may, λ is fresh. after r 
 pub tame_judged : {X : Type 0} (has : List ℕ) (t : HttpAndPending) (m : Linear) (asked : Result X Refusal) (next : X → Row HttpAndPending) → Owns has t.sent.pending
     → ((x : X) → asked ≡ Ok x → IsTame has (next x)) → IsTame has (judged t m asked next)
 tame_judged has t m (Err (refusal.Told status)) next owns after = tame_done has status t m owns
-tame_judged has t m (Err refusal.OutOfMemory) next owns after = λ replies. by_end replies
-  where
-    by_end : (replies : List OuterReply) → Tame has (judged t m (Err refusal.OutOfMemory) next) replies
-    by_end [] = owns
-    by_end (r ∷ replies) = owns
+tame_judged has t m (Err refusal.OutOfMemory) next owns after = tame_done has status.Error t m owns
 tame_judged has t m (Ok x) next owns after = after x refl
 
 -- ---- bodies that are gathered: Reads change no ticket

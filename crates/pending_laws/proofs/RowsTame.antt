@@ -1,5 +1,5 @@
 -- Each row that sends or asks keeps to the tickets of its guest.
-use Rattle.std.proofs.Common.{◌≡◌, ◌∙◌, ◌⊎◌, inl, inr, ℕ, ◌+◌, Bool, true, false, List, [], ◌∷◌, ◌++◌, length, map, refl, sym, ap, subst, arith}
+use Rattle.std.proofs.Common.{◌≡◌, ◌∙◌, ◌⊎◌, inl, inr, ℕ, suc, ◌+◌, ◌*◌, Bool, true, false, List, [], ◌∷◌, ◌++◌, length, map, refl, sym, ap, subst, arith}
 use Rattle.std.specs.Prelude.{◌&&◌, not, is_some, position, option_map, slice_get, Option, None, Some, IsTrue, Result, Ok, Err, if◌then◌else◌}
 use Rattle.std.specs.List.{list_all}
 use Rattle.std.proofs.lemmas.Bool.{and_from, and_parts}
@@ -28,7 +28,7 @@ use Rattle.fastly_toml.specs.declared.settings.Settings.{Settings}
 use Rattle.edge_pending.specs.Backends.{Sent, is_address, if_address, backend_named, address_for}
 use Rattle.edge_pending.specs.Choices.{is_held, is_choice, listed, words, first_kept, tickets_of}
 use Rattle.edge_pending.specs.Rows.{room_for_both, room_in, named, address_asked, send_asked, send_async_asked, choose_asked, select_asked, poll_asked, wait_asked, ready_asked, has_in, told_by, told_of, method_of, after_one, given, received, received_by, started_by, started, starts, gathers, sends, came_by, came, told, waits, polled, polls, chosen_at, chosen, chooses, picked, picks, peeked, peeks, http_req_send, http_req_send_async, http_req_pending_req_poll, http_req_pending_req_wait, http_req_pending_req_select, async_select, async_is_ready}
-use Rattle.edge_pending.specs.Tables.{HttpAndPending, without_sent, with_response, without_pending, is_kept, ticket_in, request_in}
+use Rattle.edge_pending.specs.Tables.{HttpAndPending, without_sent, with_response, without_pending, is_kept, is_kept_state, ticket_in, ticket_in_state, request_in}
 use Rattle.edge_pending.specs.declared.sending.Then.{Then}
 use Rattle.edge_pending.specs.declared.sending.Then.TheVariants.{Receive, Keep}
 use Rattle.edge_pending.specs.declared.tables.Pending.{Pending}
@@ -38,7 +38,7 @@ use Rattle.edge_pending.specs.declared.under_way.Lead.TheVariants.{Nothing, Numb
 use Rattle.edge_pending.specs.declared.under_way.Places.{Places}
 use Rattle.player.specs.Runs.{is_answer}
 use Rattle.player.specs.Tickets.{is_among, IsFresh, held_after}
-use Rattle.pending_laws.specs.Tickets.{in_handle, ticket_at, Owns, MayName, answered, IsTame}
+use Rattle.pending_laws.specs.Tickets.{in_state, in_handle, ticket_at, Owns, MayName, answered, IsTame}
 use Rattle.pending_laws.proofs.Handles.{either}
 use Rattle.pending_laws.proofs.Held.{among_after, stays_by, owns_after, owns_without, owns_taken, owns_kept, owns_started, among_started, owns_more, not_kept, lets_poll, lets_wait, LetsOne}
 use Rattle.pending_laws.proofs.Naming.{tame_done, tame_asks, tame_judged, gathered_tame}
@@ -177,7 +177,7 @@ module _ (reads : Reading) where
   told_tame has asks t m h p owns tame = with (held t.sent.pending h) refl
     where
       state : (pending : Pending) (s : PendingState) → pending.state ≡ s → held t.sent.pending h ≡ Some pending → IsTame has (told reads asks t m h p (has_in pending.method s))
-      state pending (Ticket n) is at = tame n (ap in_handle at ∙ ap (λ (x : PendingState). in_handle (Some (record { method = pending.method; state = x }))) is)
+      state pending (Ticket n) is at = tame n (ap in_handle at ∙ ap in_state is)
       state pending (Came bytes) is at = received_tame has (without_pending t h) m p pending.method bytes (owns_without has t.sent.pending h owns)
       state pending Broken is at = tame_done has status.Error (without_pending t h) m (owns_without has t.sent.pending h owns)
 
@@ -228,7 +228,7 @@ module _ (reads : Reading) where
     where
       state : (pending : Pending) (s : PendingState) → pending.state ≡ s → held t.sent.pending h ≡ Some pending → IsTame has (peeks reads t m h o (has_in pending.method s))
       state pending (Ticket n) is at =
-          let kept : ticket_at t.sent.pending h ≡ Some n = ap in_handle at ∙ ap (λ (x : PendingState). in_handle (Some (record { method = pending.method; state = x }))) is in
+          let kept : ticket_at t.sent.pending h ≡ Some n = ap in_handle at ∙ ap in_state is in
           tame_asks has (call.Poll n) (peeked reads t m h o) (owns.each h n kept) (λ r is fresh. peeked_tame has t m h n o r owns kept is)
       state pending (Came bytes) is at = tame_done has status.Ok t _ owns
       state pending Broken is at = tame_done has status.Ok t _ owns
@@ -247,19 +247,19 @@ module _ (reads : Reading) where
   no_kept test h handles e = with (test h) refl (position test handles) refl
     where
       with : (b : Bool) → test h ≡ b → (found : Option ℕ) → position test handles ≡ found → (test h ≡ false) × (position test handles ≡ None)
-      with true is found at = absurd (cc (e, is))
-      with false is None at = (is, at)
-      with false is (Some k) at = absurd (cc (e, is, at))
+      with true is found there = absurd (cc (rw is at e))
+      with false is None there = (is, there)
+      with false is (Some k) there = absurd (cc (rw (is, there) at e))
 
   one_among : (has : List ℕ) (table : List (Option Pending)) (h : ℕ) → Owns has table → is_held table h ≡ true → is_kept (held table h) ≡ false → IsTrue (is_among has (ticket_in (held table h)))
   one_among has table h owns there free = with (held table h) refl
     where
       state : (pending : Pending) (s : PendingState) → pending.state ≡ s → held table h ≡ Some pending → IsTrue (is_among has (ticket_in (Some pending)))
       state pending (Ticket n) is at =
-          subst (λ (x : ℕ). IsTrue (is_among has x)) (ap (λ (x : PendingState). ticket_in (Some (record { method = pending.method; state = x }))) (sym is))
-          (owns.each h n (ap in_handle at ∙ ap (λ (x : PendingState). in_handle (Some (record { method = pending.method; state = x }))) is))
-      state pending (Came bytes) is at = absurd (cc (free, ap is_kept at, ap (λ (x : PendingState). is_kept (Some (record { method = pending.method; state = x }))) is))
-      state pending Broken is at = absurd (cc (free, ap is_kept at, ap (λ (x : PendingState). is_kept (Some (record { method = pending.method; state = x }))) is))
+          subst (λ (x : ℕ). IsTrue (is_among has x)) (ap ticket_in_state (sym is))
+          (owns.each h n (ap in_handle at ∙ ap in_state is))
+      state pending (Came bytes) is at = absurd (cc (free, ap is_kept at, ap is_kept_state is))
+      state pending Broken is at = absurd (cc (free, ap is_kept at, ap is_kept_state is))
 
       with : (found : Option Pending) → held table h ≡ found → IsTrue (is_among has (ticket_in found))
       with None is = absurd (cc (there, ap (λ (x : Option Pending). is_some x) is))
@@ -274,7 +274,7 @@ module _ (reads : Reading) where
 
   same_count : (table : List (Option Pending)) (handles : List ℕ) → length (tickets_of table handles) ≡ length handles
   same_count table [] = refl
-  same_count table (h ∷ handles) = ap (λ (k : ℕ). k + 1) (same_count table handles)
+  same_count table (h ∷ handles) = ap suc (same_count table handles)
 
   may_choose : (has : List ℕ) (table : List (Option Pending)) (handles : List ℕ) → Owns has table → list_all (is_held table) handles ≡ true → is_choice handles ≡ true → first_kept table handles ≡ None → MayName has (call.AnyOf (tickets_of table handles))
   may_choose has table handles owns there choice none =
@@ -284,7 +284,7 @@ module _ (reads : Reading) where
 
   listed_is : (table : List (Option Pending)) (m : Linear) (p count : ℕ) (handles : List ℕ) → listed table m p count ≡ Ok handles → list_all (is_held table) handles ≡ true
   listed_is table m p count handles is =
-      let one = then_ok (ranged m p _) _ handles is in
+      let one = then_ok (ranged m p (4 * count)) _ handles is in
       let two = then_ok (unless (list_all (is_held table) (words m p count)) status.Badf) (λ _. Ok (words m p count)) handles one.2 in
       let same : words m p count ≡ handles = cc two.2 in
       subst (λ (hs : List ℕ). list_all (is_held table) hs ≡ true) same (unless_is (list_all (is_held table) (words m p count)) two.0 two.1)
