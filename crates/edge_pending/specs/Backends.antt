@@ -35,4 +35,4 @@ address_for settings name =
 pub record Sent : Type 0 where
   pub head : Request
   pub address : List ℕ
-  pub then : Then
+  pub next : Then

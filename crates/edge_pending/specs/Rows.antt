@@ -174,12 +174,12 @@ module _ (reads : Reading) where
       done status.Ok (with_pending t (record { method = method; state = Ticket ticket })) (number_put m o 4 (length t.sent.pending + 1))
 
   abbrev pub started : List ℕ → Then → HttpAndPending → Linear → OuterReply → Row HttpAndPending
-  started method then t m (reply.Started ticket) = started_by method then t m ticket
-  started method then t m _ = done status.Error t m
+  started method next t m (reply.Started ticket) = started_by method next t m ticket
+  started method next t m _ = done status.Error t m
 
   -- the body is there
   abbrev pub starts : Sent → HttpAndPending → Linear → List ℕ → Row HttpAndPending
-  starts s t m body = ask (call.Start s.address (request_text s.head body s.address)) (started s.head.method s.then t m)
+  starts s t m body = ask (call.Start s.address (request_text s.head body s.address)) (started s.head.method s.next t m)
 
   -- the body has these bytes, and those of the parts that are left
   abbrev pub gathers : Sent → HttpAndPending → Linear → List ℕ → List Part → Row HttpAndPending
@@ -197,8 +197,8 @@ module _ (reads : Reading) where
 
   -- request and body are taken
   abbrev pub sends : Then → HttpAndPending → Linear → ℕ → ℕ → List ℕ → Row HttpAndPending
-  sends then t m h body address =
-      gathers (record { head = request_in (held t.http.requests h); address = address; then = then }) (without_sent t h body) m [] (parts_in (held t.http.bodies body))
+  sends next t m h body address =
+      gathers (record { head = request_in (held t.http.requests h); address = address; next = next }) (without_sent t h body) m [] (parts_in (held t.http.bodies body))
 
   -- ---- handles whose response is asked for
 
@@ -302,7 +302,7 @@ module _ (reads : Reading) where
   -- how each goes on with the reply to its outer call
   abbrev pub resumed : UnderWay → HttpAndPending → Linear → OuterReply → Row HttpAndPending
   resumed (Gathering s hit place had left) t m reply = gathers_on s t m hit place had left reply
-  resumed (Starting method then) t m reply = started method then t m reply
+  resumed (Starting method next) t m reply = started method next t m reply
   resumed (Receiving method p) t m reply = received_by method p t m reply
   resumed (Polling h o1 o2 o3) t m reply = polled t m h o1 o2 o3 reply
   resumed (Waiting h p) t m reply = came t m h p reply

@@ -36,7 +36,7 @@ pub fn pending_reply(
             had,
             left,
         } => gathers_on(alloc, sending, hit, place, had, left, reply),
-        UnderWay::Starting { method, then } => { started(tables, memory, method, then, reply) }
+        UnderWay::Starting { method, next } => { started(tables, memory, method, next, reply) }
         UnderWay::Receiving { method, places } => {
             received_by(alloc, http, memory, &method, places, reply)
         }

@@ -23,7 +23,7 @@ pub enum Then {
 pub struct Sending {
     head: RequestHead,
     address: Octets,
-    then: Then,
+    next: Then,
 }
 
 impl Model for Sending {
@@ -32,20 +32,20 @@ impl Model for Sending {
 
     ghost Value = { Sent };
 
-    ghost view = { λ s. record { head = s.head; address = s.address; then = s.then } };
+    ghost view = { λ s. record { head = s.head; address = s.address; next = s.next } };
 
     ghost invariant = { λ s. IsTrue (is_address s.address) };
 }
 
 impl Sending {
-    pub fn new(head: RequestHead, address: Octets, then: Then) -> Sending
+    pub fn new(head: RequestHead, address: Octets, next: Then) -> Sending
         requires { IsTrue (is_address address) }
-        ensures { result ≡ record { head = head; address = address; then = then } }
+        ensures { result ≡ record { head = head; address = address; next = next } }
     {
         Sending {
             head,
             address,
-            then,
+            next,
         }
     }
 
@@ -60,14 +60,14 @@ impl Sending {
     pub fn into_parts(self) -> (RequestHead, Octets, Then)
         ensures head { result.0 ≡ self.head }
         ensures address { result.1 ≡ self.address }
-        ensures then { result.2 ≡ self.then }
+        ensures next { result.2 ≡ self.next }
         ensures kept { IsTrue (is_address result.1) }
     {
         let Sending {
             head,
             address,
-            then,
+            next,
         } = self;
-        (head, address, then)
+        (head, address, next)
     }
 }

@@ -196,11 +196,11 @@ fn started_with(alloc: Global, sending: Sending, had: Text) -> Result<PendingSte
 {
     let body = Octets::from_vec(had.into_bytes())?;
     let request = sending.bytes(alloc, &body)?;
-    let (head, address, then) = sending.into_parts();
+    let (head, address, next) = sending.into_parts();
     let method = head.method().copy(alloc)?;
     Ok(Step::Outer(
         OuterCall::Start { address, request },
-        UnderWay::Starting { method, then },
+        UnderWay::Starting { method, next },
     ))
 }
 
@@ -297,18 +297,18 @@ pub fn gathers_on(
 fn sends(
     alloc: Global,
     http: &mut HttpTables,
-    then: Then,
+    next: Then,
     h: u32,
     body: u32,
     address: Octets,
 ) -> Result<PendingStep, AllocError>
     requires { IsTrue (is_address address) }
     ensures { (reads : Reading) (handles : Handles) (m : Linear)
-        → IfOk result (λ step. Goes (spec.resumed reads) (spec.sends reads then (both http.old handles) m h body address) step (both http.new handles) m) }
+        → IfOk result (λ step. Goes (spec.resumed reads) (spec.sends reads next (both http.old handles) m h body address) step (both http.new handles) m) }
 {
     let head = request_taken(http, alloc, h)?;
     let parts = parts_taken(http, alloc, body);
-    let sending = Sending::new(head, address, then);
+    let sending = Sending::new(head, address, next);
     gathers(alloc, sending, Text::new(alloc), parts)
 }
 
@@ -375,13 +375,13 @@ fn started_by(
     tables: &mut PendingTables,
     memory: &mut Memory,
     method: Octets,
-    then: Then,
+    next: Then,
     ticket: u64,
 ) -> Result<PendingStep, AllocError>
     ensures { (reads : Reading) (http : Messages)
-        → IfOk result (λ step. Goes (spec.resumed reads) (spec.started_by reads method then (both http tables.old) memory.old ticket) step (both http tables.new) memory.new) }
+        → IfOk result (λ step. Goes (spec.resumed reads) (spec.started_by reads method next (both http tables.old) memory.old ticket) step (both http tables.new) memory.new) }
 {
-    match then {
+    match next {
         Then::Receive { places } => Ok(Step::Outer(
             OuterCall::WaitFor { ticket },
             UnderWay::Receiving { method, places },
@@ -404,14 +404,14 @@ pub fn started(
     tables: &mut PendingTables,
     memory: &mut Memory,
     method: Octets,
-    then: Then,
+    next: Then,
     reply: &OuterReply,
 ) -> Result<PendingStep, AllocError>
     ensures { (reads : Reading) (http : Messages)
-        → IfOk result (λ step. Goes (spec.resumed reads) (spec.started reads method then (both http tables.old) memory.old reply.now) step (both http tables.new) memory.new) }
+        → IfOk result (λ step. Goes (spec.resumed reads) (spec.started reads method next (both http tables.old) memory.old reply.now) step (both http tables.new) memory.new) }
 {
     match reply {
-        OuterReply::Started(ticket) => started_by(tables, memory, method, then, *ticket),
+        OuterReply::Started(ticket) => started_by(tables, memory, method, next, *ticket),
         _ => Ok(error()),
     }
 }

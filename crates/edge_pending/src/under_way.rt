@@ -35,7 +35,7 @@ pub enum UnderWay {
     /// A request of this method is sent.
     Starting {
         method: Octets,
-        then: Then,
+        next: Then,
     },
     /// The response to a request of this method is waited for.
     Receiving {

@@ -113,8 +113,8 @@ module _ (reads : Reading) where
       (owns_after has (call.WaitFor n) reply.LinkFailed t.sent.pending owns (λ k other e. lets_wait n reply.LinkFailed other (λ same. none k (e ∙ ap Some (sym same)))))
   received_by_tame has n method p t m _ owns none is = absurd (cc is)
 
-  started_by_tame : (has : List ℕ) (address request method : List ℕ) (then : Then) (t : HttpAndPending) (m : Linear) (n : ℕ) → Owns has t.sent.pending → is_among has n ≡ false
-      → IsTame (held_after has (answered (call.Start address request) (reply.Started n))) (started_by reads method then t m n)
+  started_by_tame : (has : List ℕ) (address request method : List ℕ) (next : Then) (t : HttpAndPending) (m : Linear) (n : ℕ) → Owns has t.sent.pending → is_among has n ≡ false
+      → IsTame (held_after has (answered (call.Start address request) (reply.Started n))) (started_by reads method next t m n)
   started_by_tame has address request method (Receive p) t m n owns fresh =
       let now = held_after has (answered (call.Start address request) (reply.Started n)) in
       tame_asks now (call.WaitFor n) (received_by reads method p t m) (among_started has address request n)
@@ -122,22 +122,22 @@ module _ (reads : Reading) where
   started_by_tame has address request method (Keep o) t m n owns fresh =
       tame_done (held_after has (answered (call.Start address request) (reply.Started n))) status.Ok _ _ (owns_more has address request n method t.sent.pending owns fresh)
 
-  started_tame : (has : List ℕ) (address request method : List ℕ) (then : Then) (t : HttpAndPending) (m : Linear) (r : OuterReply) → Owns has t.sent.pending
-      → IsTrue (is_answer (call.Start address request) r) → IsFresh has r → IsTame (held_after has (answered (call.Start address request) r)) (started reads method then t m r)
-  started_tame has address request method then t m (reply.Started n) owns is fresh = started_by_tame has address request method then t m n owns fresh
-  started_tame has address request method then t m reply.LinkFailed owns is fresh =
+  started_tame : (has : List ℕ) (address request method : List ℕ) (next : Then) (t : HttpAndPending) (m : Linear) (r : OuterReply) → Owns has t.sent.pending
+      → IsTrue (is_answer (call.Start address request) r) → IsFresh has r → IsTame (held_after has (answered (call.Start address request) r)) (started reads method next t m r)
+  started_tame has address request method next t m (reply.Started n) owns is fresh = started_by_tame has address request method next t m n owns fresh
+  started_tame has address request method next t m reply.LinkFailed owns is fresh =
       tame_done (held_after has (answered (call.Start address request) reply.LinkFailed)) status.Error t m
       (owns_after has (call.Start address request) reply.LinkFailed t.sent.pending owns (λ k n e. refl))
-  started_tame has address request method then t m _ owns is fresh = absurd (cc is)
+  started_tame has address request method next t m _ owns is fresh = absurd (cc is)
 
   starts_tame : (has : List ℕ) (s : Sent) (t : HttpAndPending) (m : Linear) (body : List ℕ) → Owns has t.sent.pending → IsTrue (is_address s.address) → IsTame has (starts reads s t m body)
   starts_tame has s t m body owns address =
-      tame_asks has (call.Start s.address (request_text s.head body s.address)) (started reads s.head.method s.then t m) address
-      (λ r is fresh. started_tame has s.address (request_text s.head body s.address) s.head.method s.then t m r owns is fresh)
+      tame_asks has (call.Start s.address (request_text s.head body s.address)) (started reads s.head.method s.next t m) address
+      (λ r is fresh. started_tame has s.address (request_text s.head body s.address) s.head.method s.next t m r owns is fresh)
 
-  sends_tame : (has : List ℕ) (then : Then) (t : HttpAndPending) (m : Linear) (h body : ℕ) (address : List ℕ) → Owns has t.sent.pending → IsTrue (is_address address) → IsTame has (sends reads then t m h body address)
-  sends_tame has then t m h body address owns is =
-      let s : Sent = record { head = request_in (held t.http.requests h); address = address; then = then } in
+  sends_tame : (has : List ℕ) (next : Then) (t : HttpAndPending) (m : Linear) (h body : ℕ) (address : List ℕ) → Owns has t.sent.pending → IsTrue (is_address address) → IsTame has (sends reads next t m h body address)
+  sends_tame has next t m h body address owns is =
+      let s : Sent = record { head = request_in (held t.http.requests h); address = address; next = next } in
       gathered_tame has _ (tame_done has status.Error (without_sent t h body) m owns) [] (parts_in (held t.http.bodies body)) (starts reads s (without_sent t h body) m)
       (λ now. starts_tame has s (without_sent t h body) m now owns is)
 
