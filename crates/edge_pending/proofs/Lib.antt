@@ -1,3 +1,4 @@
+pub mod Addresses
 pub mod Gathered
 pub mod Goings
 pub mod Listing
