@@ -2,4 +2,5 @@ pub mod Addresses
 pub mod Gathered
 pub mod Goings
 pub mod Listing
+pub mod RowSteps
 pub mod Short
