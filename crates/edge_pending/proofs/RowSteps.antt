@@ -1,6 +1,6 @@
 -- How the steps of rows go on, by what was judged, told or answered.
 use Rattle.std.proofs.Common.{◌≡◌, ◌∙◌, ℕ, List, [], refl, sym, ap, subst}
-use Rattle.std.specs.Prelude.{Option, None, Some, Result, Ok, slice_get}
+use Rattle.std.specs.Prelude.{Option, Some, Result, Ok, slice_get}
 use Rattle.cache_types.specs.declared.outer.OuterReply.{OuterReply}
 use Rattle.cache_types.specs.declared.outer.OuterReply.TheVariants as reply
 use Rattle.wasm_memory.specs.Linear.{Linear}
@@ -23,7 +23,7 @@ use Rattle.edge_pending.specs.declared.tables.PendingTables.{PendingTables}
 use Rattle.edge_pending.specs.declared.under_way.Places.{Places}
 use Rattle.edge_pending.specs.declared.under_way.UnderWay.{UnderWay}
 use Rattle.edge_pending.specs.declared.waits.Told.{Told as Has}
-use Rattle.edge_pending.specs.declared.waits.Told.TheVariants.{Ask as HasTicket, Came as HasBytes, Broken as HasFailed}
+use Rattle.edge_pending.specs.declared.waits.Told.TheVariants.{Came as HasBytes, Broken as HasFailed}
 use Rattle.edge_pending.proofs.Goings.{goes_same}
 
 pub answers_same : {T : Type 0} (k number : ℕ) (t tables : T) (m memory : Linear) (replies : List OuterReply) → number ≡ k → tables ≡ t → memory ≡ m → answers k t m replies ≡ answers number tables memory replies

@@ -7,7 +7,7 @@ use Rattle.wasm_memory.specs.Linear.{Linear}
 use Rattle.edge_abi.specs.declared.status.Status.TheVariants as status
 use Rattle.edge_abi.specs.declared.status.Refusal.{Refusal}
 use Rattle.edge_abi.specs.Memory.{octets_at}
-use Rattle.edge_abi.specs.Refusals.{and_then, unless, ranged, placed}
+use Rattle.edge_abi.specs.Refusals.{and_then, unless, ranged}
 use Rattle.edge_abi.specs.Tables.{held}
 use Rattle.edge_pending.specs.Tables.{is_kept, ticket_in}
 use Rattle.edge_pending.specs.declared.tables.Pending.{Pending}

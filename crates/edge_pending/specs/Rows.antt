@@ -1,5 +1,5 @@
 -- The calls of `fastly_http_req` that send, those that ask for responses, and those of `fastly_async_io`.
-use Rattle.std.specs.Prelude.{ℕ, ◌+◌, ◌==◌, not, is_some, List, [], ◌∷◌, length, slice_get, Option, None, Some, Result, Ok, Err, if◌then◌else◌}
+use Rattle.std.specs.Prelude.{ℕ, ◌+◌, ◌==◌, not, is_some, List, [], length, slice_get, Option, None, Some, Result, Ok, Err}
 use Rattle.cache_types.specs.declared.outer.OuterCall.TheVariants as call
 use Rattle.cache_types.specs.declared.outer.OuterReply.{OuterReply}
 use Rattle.cache_types.specs.declared.outer.OuterReply.TheVariants as reply
@@ -11,8 +11,8 @@ use Rattle.edge_abi.specs.declared.status.Refusal.{Refusal}
 use Rattle.edge_abi.specs.Memory.{octets_at, number_put}
 use Rattle.edge_abi.specs.Refusals.{and_then, unless, ranged, placed, handled}
 use Rattle.edge_abi.specs.Tables.{held, is_full}
-use Rattle.edge_abi.specs.Told.{Told, After, Row, ask, judged, done}
-use Rattle.edge_body.specs.Heads.{Request, Response}
+use Rattle.edge_abi.specs.Told.{Row, ask, judged, done}
+use Rattle.edge_body.specs.Heads.{Response}
 use Rattle.edge_body.specs.declared.body.Part.{Part}
 use Rattle.edge_http_calls.specs.Bodies.{parts_of, parts_in}
 use Rattle.edge_http_calls.specs.declared.tables.BodyState.{BodyState}

@@ -1,6 +1,6 @@
 -- What the rows act on: a guest's requests, responses and bodies, and its pending handles.
 use Rattle.std.specs.Prelude.{ℕ, Bool, true, false, List, [], ◌∷◌, ◌++◌, Option, None, Some}
-use Rattle.edge_abi.specs.Tables.{held, taken, changed}
+use Rattle.edge_abi.specs.Tables.{taken, changed}
 use Rattle.edge_body.specs.Heads.{Request, Response}
 use Rattle.edge_body.specs.declared.body.Part.TheVariants.{Own}
 use Rattle.edge_http_calls.specs.Requests.{new_request}

@@ -1,5 +1,4 @@
 use Rattle.std.proofs.Common.{◌∙◌, List, ℕ, ap}
-use Rattle.edge_abi.specs.Told.{answers}
 use Rattle.edge_pending.specs.Tables.{both, with_state}
 use Rattle.edge_pending.specs.declared.tables.PendingState.TheVariants.{Came}
 use Rattle.edge_pending.proofs.RowSteps.{answers_same}

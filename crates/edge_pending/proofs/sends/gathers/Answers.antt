@@ -1,4 +1,4 @@
-use Rattle.std.proofs.Common.{sym, subst}
+use Rattle.std.proofs.Common.{subst}
 use Rattle.std.proofs.lemmas.Result.{IfOk-weaker}
 use Rattle.edge_abi.specs.declared.status.Status.TheVariants as status
 use Rattle.edge_abi.specs.Goes.{Goes}
