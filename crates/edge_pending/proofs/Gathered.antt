@@ -20,7 +20,7 @@ module _ {A : Type 0} (fails : List OuterReply → Told A) (ends : List ℕ → 
   goes_front had (Rest hit place length ∷ parts) replies = refl
 
 -- what follows what was heard
-abbrev apart : {A : Type 0} → Heard → (List ℕ → A) → A → A → A
+abbrev pub apart : {A : Type 0} → Heard → (List ℕ → A) → A → A → A
 apart (Bytes bytes) goes ended failed = goes bytes
 apart Ended goes ended failed = ended
 apart Failed goes ended failed = failed
@@ -35,7 +35,7 @@ read_apart most (said.Bytes bytes) goes ended failed = if_apart (nat_le (length 
 read_apart most said.Ended goes ended failed = refl
 read_apart most _ goes ended failed = refl
 
-heard_apart : {A : Type 0} (most : ℕ) (read : OuterReply) (goes : List ℕ → A) (ended failed : A) → heard most read goes ended failed ≡ apart (heard most read Bytes Ended Failed) goes ended failed
+pub heard_apart : {A : Type 0} (most : ℕ) (read : OuterReply) (goes : List ℕ → A) (ended failed : A) → heard most read goes ended failed ≡ apart (heard most read Bytes Ended Failed) goes ended failed
 heard_apart most (reply.Cache stepped) goes ended failed = read_apart most stepped.reply goes ended failed
 heard_apart most _ goes ended failed = refl
 

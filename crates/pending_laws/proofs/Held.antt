@@ -1,7 +1,7 @@
 -- Which tickets are held behind a call, and which handles keep them.
-use Rattle.std.proofs.Common.{◌≡◌, ◌∙◌, ◌⊎◌, inl, inr, ℕ, zero, suc, ◌+◌, ◌<◌, ◌==◌, Bool, true, false, List, [], ◌∷◌, ◌++◌, length, refl, sym, ap, subst, arith}
-use Rattle.std.specs.Prelude.{◌&&◌, ◌||◌, not, filter, Option, None, Some, IsTrue, if◌then◌else◌}
-use Rattle.std.proofs.lemmas.Bool.{eqb-true, eq-eqb, ne_eqb, or_cases, and_left, and_right, not-true}
+use Rattle.std.proofs.Common.{◌≡◌, ◌∙◌, ◌⊎◌, inl, inr, ℕ, ◌+◌, ◌==◌, Bool, true, false, List, [], ◌∷◌, ◌++◌, length, refl, sym, ap, subst}
+use Rattle.std.specs.Prelude.{◌||◌, not, filter, Option, None, Some, IsTrue, if◌then◌else◌}
+use Rattle.std.proofs.lemmas.Bool.{eqb-true, eq-eqb, ne_eqb, or_cases, and_left, and_right}
 use Rattle.cache_types.specs.declared.outer.OuterCall.{OuterCall}
 use Rattle.cache_types.specs.declared.outer.OuterCall.TheVariants as call
 use Rattle.cache_types.specs.declared.outer.OuterReply.{OuterReply}
@@ -10,11 +10,10 @@ use Rattle.edge_abi.specs.Tables.{held, taken, changed}
 use Rattle.edge_pending.specs.Tables.{in_state as with_state_in}
 use Rattle.edge_pending.specs.declared.tables.Pending.{Pending}
 use Rattle.edge_pending.specs.declared.tables.PendingState.{PendingState}
-use Rattle.edge_pending.specs.declared.tables.PendingState.TheVariants.{Ticket, Came, Broken}
-use Rattle.player.specs.Plays.{Answered}
+use Rattle.edge_pending.specs.declared.tables.PendingState.TheVariants.{Ticket}
 use Rattle.player.specs.Tickets.{is_among, with_given, lets_go, takes, held_after}
 use Rattle.pending_laws.specs.Tickets.{in_state, in_handle, ticket_at, Owns, answered}
-use Rattle.pending_laws.proofs.Handles.{either, held_is, taken_is, changed_is, more_is, past_end}
+use Rattle.pending_laws.proofs.Handles.{either, taken_is, changed_is, more_is}
 
 -- ---- lists of tickets
 
@@ -27,14 +26,12 @@ or_right false y e = e
 
 among_filter : (test : ℕ → Bool) (has : List ℕ) (n : ℕ) → is_among has n ≡ true → test n ≡ true → is_among (filter test has) n ≡ true
 among_filter test [] n among passes = absurd (cc among)
-among_filter test (x ∷ has) n among passes = with (test x) refl
+among_filter test (x ∷ has) n among passes = with (test x) refl (λ e. among_filter test has n e passes)
   where
-    later : is_among has n ≡ true → is_among (filter test has) n ≡ true
-    later e = among_filter test has n e passes
-
-    with : (b : Bool) → test x ≡ b → is_among (if b then x ∷ filter test has else filter test has) n ≡ true
-    with true is = either (or_cases (x == n) (is_among has n) among) (λ here. or_left (x == n) (is_among (filter test has) n) here) (λ there. or_right (x == n) (is_among (filter test has) n) (later there))
-    with false is = either (or_cases (x == n) (is_among has n) among) (λ here. absurd (cc (is, passes, eqb-true x n here))) later
+    with : (b : Bool) → test x ≡ b → (is_among has n ≡ true → is_among (filter test has) n ≡ true) → is_among (if b then x ∷ filter test has else filter test has) n ≡ true
+    with true is later =
+        either (or_cases (x == n) (is_among has n) among) (λ here. or_left (x == n) (is_among (filter test has) n) here) (λ there. or_right (x == n) (is_among (filter test has) n) (later there))
+    with false is later = either (or_cases (x == n) (is_among has n) among) (λ here. absurd (cc (is, passes, eqb-true x n here))) later
 
 among_given : (r : OuterReply) (has : List ℕ) (n : ℕ) → is_among has n ≡ true → is_among (with_given r has) n ≡ true
 among_given (reply.Started ticket) has n e = or_right (ticket == n) (is_among has n) e

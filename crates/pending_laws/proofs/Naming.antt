@@ -1,8 +1,9 @@
 -- Rows that keep to their tickets, put together from their parts.
-use Rattle.std.proofs.Common.{◌≡◌, ◌∙◌, ◌⊎◌, ℕ, Bool, true, false, List, [], ◌∷◌, ◌++◌, length, refl, sym, ap, subst}
-use Rattle.std.specs.Prelude.{◌&&◌, not, filter, IsTrue, Result, Ok, Err, if◌then◌else◌}
+use Rattle.std.proofs.Common.{◌≡◌, ℕ, true, List, [], ◌∷◌, ◌++◌, length, refl, sym, ap, subst}
+use Rattle.std.specs.Prelude.{filter, IsTrue, Result, Ok, Err}
 use Rattle.wasm_memory.specs.Linear.{Linear}
 use Rattle.cache_types.specs.declared.calls.CacheCall.{CacheCall}
+use Rattle.cache_types.specs.declared.calls.CacheCall.TheVariants.{Read}
 use Rattle.cache_types.specs.declared.outer.OuterCall.{OuterCall}
 use Rattle.cache_types.specs.declared.outer.OuterCall.TheVariants as call
 use Rattle.cache_types.specs.declared.outer.OuterReply.{OuterReply}
@@ -17,7 +18,7 @@ use Rattle.edge_abi.specs.Goes.{Goes}
 use Rattle.edge_abi.specs.Told.{Told, Wants, Gives, After, Row, ask, done, judged, answers}
 use Rattle.edge_body.specs.declared.body.Part.{Part}
 use Rattle.edge_body.specs.declared.body.Part.TheVariants.{Own, Rest}
-use Rattle.edge_http_calls.specs.Moves.{onward, heard, read_at}
+use Rattle.edge_http_calls.specs.Moves.{onward, heard}
 use Rattle.edge_link.specs.Readings.{Reading}
 use Rattle.edge_pending.specs.Gathers.{read_hit, gathered}
 use Rattle.edge_pending.specs.Rows.{resumed}
@@ -28,7 +29,7 @@ use Rattle.edge_pending.specs.declared.under_way.UnderWay.{UnderWay}
 use Rattle.edge_pending.proofs.Gathered.{apart, heard_apart}
 use Rattle.player.specs.Runs.{is_answer}
 use Rattle.player.specs.Tickets.{IsFresh, held_after}
-use Rattle.pending_laws.specs.Tickets.{Owns, MayName, answered, Each, Leaves, Tame, IsTame, WaitsTame, StepsTame}
+use Rattle.pending_laws.specs.Tickets.{Owns, MayName, answered, Each, Leaves, Tame, IsTame, StepsTame}
 
 -- ---- the same row, told otherwise
 
@@ -85,7 +86,7 @@ module _ (has : List ℕ) (fails : Row HttpAndPending) (owns : IsTame has fails)
   hit_tame hit place had ends end (r ∷ replies) = (
     tt,
     λ is fresh.
-        subst (λ (now : List ℕ). Tame now (λ more. read_hit hit place had fails ends (r ∷ more)) replies) (sym (cache_same has _ r is))
+        subst (λ (now : List ℕ). Tame now (λ more. read_hit hit place had fails ends (r ∷ more)) replies) (sym (cache_same has (Read hit place 65536) r is))
         (tame_same has (λ more. read_hit hit place had fails ends (r ∷ more))
         (λ more. apart (heard 65536 r Bytes Ended Failed) (λ bytes. read_hit hit (onward place bytes) (had ++ bytes) fails ends more) (ends had more) (fails more))
         (λ more. heard_apart 65536 r (λ bytes. read_hit hit (onward place bytes) (had ++ bytes) fails ends more) (ends had more) (fails more)) replies

@@ -1,22 +1,24 @@
 -- Each row that sends or asks keeps to the tickets of its guest.
-use Rattle.std.proofs.Common.{◌≡◌, ◌∙◌, ◌⊎◌, inl, inr, ℕ, suc, ◌+◌, ◌*◌, Bool, true, false, List, [], ◌∷◌, ◌++◌, length, map, refl, sym, ap, subst, arith}
-use Rattle.std.specs.Prelude.{◌&&◌, not, is_some, position, option_map, slice_get, Option, None, Some, IsTrue, Result, Ok, Err, if◌then◌else◌}
+use Rattle.std.proofs.Common.{◌≡◌, ◌∙◌, ℕ, suc, ◌*◌, Bool, true, false, List, [], ◌∷◌, length, refl, sym, ap, subst, arith}
+use Rattle.std.specs.Prelude.{not, is_some, position, slice_get, Option, None, Some, IsTrue, Result, Ok, Err, if◌then◌else◌}
 use Rattle.std.specs.List.{list_all}
 use Rattle.std.proofs.lemmas.Bool.{and_from, and_parts}
+use Rattle.std.proofs.lemmas.Grind.{common_steps}
 use Rattle.wasm_memory.specs.Linear.{Linear}
+use Rattle.std.specs.BTreeMap.{get}
+use Rattle.std.specs.Ordering.{nat_cmp}
+use Rattle.std.specs.Cmp.Lexicographic.{slice_cmp}
 use Rattle.cache_types.specs.Limits.{is_from_to}
 use Rattle.cache_types.specs.declared.outer.OuterCall.{OuterCall}
 use Rattle.cache_types.specs.declared.outer.OuterCall.TheVariants as call
 use Rattle.cache_types.specs.declared.outer.OuterReply.{OuterReply}
 use Rattle.cache_types.specs.declared.outer.OuterReply.TheVariants as reply
 use Rattle.edge_abi.specs.declared.status.Status.TheVariants as status
-use Rattle.edge_abi.specs.declared.status.Refusal.{Refusal}
-use Rattle.edge_abi.specs.Memory.{octets_at, number_put}
+use Rattle.edge_abi.specs.Memory.{octets_at}
 use Rattle.edge_abi.specs.Refusals.{and_then, unless, ranged, placed, some_or}
-use Rattle.edge_abi.specs.Tables.{held, taken, changed}
-use Rattle.edge_abi.specs.Told.{Row, ask}
-use Rattle.edge_body.specs.Heads.{Request, Response}
-use Rattle.edge_body.specs.declared.body.Part.{Part}
+use Rattle.edge_abi.specs.Tables.{held}
+use Rattle.edge_abi.specs.Told.{Row}
+use Rattle.edge_body.specs.Heads.{Response}
 use Rattle.edge_http_calls.specs.Bodies.{parts_of, parts_in}
 use Rattle.edge_http_calls.specs.declared.tables.BodyState.{BodyState}
 use Rattle.edge_link.specs.Readings.{Reading}
@@ -27,7 +29,7 @@ use Rattle.fastly_toml.specs.declared.settings.Backend.{Backend}
 use Rattle.fastly_toml.specs.declared.settings.Settings.{Settings}
 use Rattle.edge_pending.specs.Backends.{Sent, is_address, if_address, backend_named, address_for}
 use Rattle.edge_pending.specs.Choices.{is_held, is_choice, listed, words, first_kept, tickets_of}
-use Rattle.edge_pending.specs.Rows.{room_for_both, room_in, named, address_asked, send_asked, send_async_asked, choose_asked, select_asked, poll_asked, wait_asked, ready_asked, has_in, told_by, told_of, method_of, after_one, given, received, received_by, started_by, started, starts, gathers, sends, came_by, came, told, waits, polled, polls, chosen_at, chosen, chooses, picked, picks, peeked, peeks, http_req_send, http_req_send_async, http_req_pending_req_poll, http_req_pending_req_wait, http_req_pending_req_select, async_select, async_is_ready}
+use Rattle.edge_pending.specs.Rows.{room_for_both, room_in, named, address_asked, send_asked, send_async_asked, choose_asked, select_asked, poll_asked, wait_asked, ready_asked, has_in, told_of, method_of, after_one, given, received, received_by, started_by, started, starts, sends, came_by, came, told, waits, polled, chosen_at, chosen, chooses, picked, picks, peeked, peeks, http_req_send, http_req_send_async, http_req_pending_req_poll, http_req_pending_req_wait, http_req_pending_req_select, async_select, async_is_ready}
 use Rattle.edge_pending.specs.Tables.{HttpAndPending, without_sent, with_response, without_pending, is_kept, is_kept_state, ticket_in, ticket_in_state, request_in}
 use Rattle.edge_pending.specs.declared.sending.Then.{Then}
 use Rattle.edge_pending.specs.declared.sending.Then.TheVariants.{Receive, Keep}
@@ -39,9 +41,16 @@ use Rattle.edge_pending.specs.declared.under_way.Places.{Places}
 use Rattle.player.specs.Runs.{is_answer}
 use Rattle.player.specs.Tickets.{is_among, IsFresh, held_after}
 use Rattle.pending_laws.specs.Tickets.{in_state, in_handle, ticket_at, Owns, MayName, answered, IsTame}
-use Rattle.pending_laws.proofs.Handles.{either}
-use Rattle.pending_laws.proofs.Held.{among_after, stays_by, owns_after, owns_without, owns_taken, owns_kept, owns_started, among_started, owns_more, not_kept, lets_poll, lets_wait, LetsOne}
+use Rattle.pending_laws.proofs.Held.{stays_by, owns_after, owns_without, owns_taken, owns_kept, owns_started, among_started, owns_more, not_kept, lets_poll, lets_wait, LetsOne}
 use Rattle.pending_laws.proofs.Naming.{tame_done, tame_asks, tame_judged, gathered_tame}
+
+-- ---- where the first stands
+
+position_found : {X : Type 0} (p : X → Bool) (x : X) (xs : List X) → p x ≡ true → position p (x ∷ xs) ≡ Some 0
+position_found p x xs passes = rw passes (grind (arith, common_steps))
+
+position_later : {X : Type 0} (p : X → Bool) (x : X) (xs : List X) → p x ≡ false → position p (x ∷ xs) ≡ None → position p xs ≡ None
+position_later p x xs fails none = grind (arith, common_steps)
 
 -- ---- what was asked, where nothing was refused
 
@@ -54,7 +63,7 @@ found_address None b e = absurd (cc e)
 found_address (Some c) b e = with (is_address c.address) refl e
   where
     with : (test : Bool) → is_address c.address ≡ test → (if test then Some c else None) ≡ Some b → IsTrue (is_address b.address)
-    with true is same = subst (λ (x : Backend). is_address x.address ≡ true) (cc same) is
+    with true is same = let one : c ≡ b = cc same in subst (λ (x : Backend). is_address x.address ≡ true) one is
     with false is same = absurd (cc same)
 
 some_is : {X : Type 0} (found : Option X) (x : X) → some_or found status.Inval ≡ Ok x → found ≡ Some x
@@ -66,7 +75,7 @@ address_is settings name address is =
     let one = then_ok (some_or (backend_named settings name) status.Inval) (λ (b : Backend). and_then (unless (not b.https) status.Unsupported) (λ _. Ok b.address)) address is in
     let two = then_ok (unless (not one.0.https) status.Unsupported) (λ _. Ok one.0.address) address one.2 in
     let same : one.0.address ≡ address = cc two.2 in
-    subst (λ (a : List ℕ). IsTrue (is_address a)) same (found_address _ one.0 (some_is (backend_named settings name) one.0 one.1))
+    subst (λ (a : List ℕ). IsTrue (is_address a)) same (found_address (get (slice_cmp nat_cmp) settings.backends name) one.0 (some_is (backend_named settings name) one.0 one.1))
 
 asked_address : (settings : Settings) (m : Linear) (state : BodyState) (p n : ℕ) (address : List ℕ) → address_asked settings m state p n ≡ Ok address → IsTrue (is_address address)
 asked_address settings m state p n address is =
@@ -79,7 +88,8 @@ send_address t s m h body p n o r address is =
     let two = then_ok (placed m r 4) _ address one.2 in
     let given = then_ok (address_asked s m state.0 p n) _ address two.2 in
     let room = then_ok (room_for_both t.http) (λ _. Ok given.0) address given.2 in
-    subst (λ (a : List ℕ). IsTrue (is_address a)) (cc room.2) (asked_address s m state.0 p n given.0 given.1)
+    let same : given.0 ≡ address = cc room.2 in
+    subst (λ (a : List ℕ). IsTrue (is_address a)) same (asked_address s m state.0 p n given.0 given.1)
 
 send_async_address : (t : HttpAndPending) (s : Settings) (m : Linear) (h body p n o : ℕ) (address : List ℕ) → send_async_asked t s m h body p n o ≡ Ok address → IsTrue (is_address address)
 send_async_address t s m h body p n o address is =
@@ -87,7 +97,8 @@ send_async_address t s m h body p n o address is =
     let one = then_ok (placed m o 4) _ address state.2 in
     let given = then_ok (address_asked s m state.0 p n) _ address one.2 in
     let room = then_ok (room_in t.sent.pending) (λ _. Ok given.0) address given.2 in
-    subst (λ (a : List ℕ). IsTrue (is_address a)) (cc room.2) (asked_address s m state.0 p n given.0 given.1)
+    let same : given.0 ≡ address = cc room.2 in
+    subst (λ (a : List ℕ). IsTrue (is_address a)) same (asked_address s m state.0 p n given.0 given.1)
 
 -- ---- what came
 
@@ -244,12 +255,11 @@ module _ (reads : Reading) where
 
   -- handles that keep nothing have tickets, and these are held
   no_kept : (test : ℕ → Bool) (h : ℕ) (handles : List ℕ) → position test (h ∷ handles) ≡ None → (test h ≡ false) × (position test handles ≡ None)
-  no_kept test h handles e = with (test h) refl (position test handles) refl
+  no_kept test h handles e = with (test h) refl
     where
-      with : (b : Bool) → test h ≡ b → (found : Option ℕ) → position test handles ≡ found → (test h ≡ false) × (position test handles ≡ None)
-      with true is found there = absurd (cc (rw is at e))
-      with false is None there = (is, there)
-      with false is (Some k) there = absurd (cc (rw (is, there) at e))
+      with : (b : Bool) → test h ≡ b → (test h ≡ false) × (position test handles ≡ None)
+      with true is = absurd (cc (position_found test h handles is, e))
+      with false is = (is, position_later test h handles is e)
 
   one_among : (has : List ℕ) (table : List (Option Pending)) (h : ℕ) → Owns has table → is_held table h ≡ true → is_kept (held table h) ≡ false → IsTrue (is_among has (ticket_in (held table h)))
   one_among has table h owns there free = with (held table h) refl
