@@ -8,6 +8,25 @@ use edge_pending::{
 use std::alloc::{AllocError, Global};
 use std::test::Fail;
 
+/// An empty GET is sent to the backend `b`.
+fn is_start(call: &OuterCall) -> bool {
+    let want = b"GET /a?b HTTP/1.1\r\nhost: h:81\r\nconnection: close\r\n\r\n";
+    match call {
+        OuterCall::Start { address, request } => {
+            address.bytes() == b"h:81".as_slice() && request.bytes() == want.as_slice()
+        }
+        _ => false,
+    }
+}
+
+/// A choice among these tickets.
+fn is_choice(call: &OuterCall, want: &[u64]) -> bool {
+    match call {
+        OuterCall::AnyOf { tickets } => tickets.items() == want,
+        _ => false,
+    }
+}
+
 /// Sends an empty GET to the backend `b`; the link replies so. The answer is the number of the call.
 fn send_async(guest: &mut Guest, alloc: Global, reply: &OuterReply) -> Result<u32, Fail> {
     let (request, body) = guest.new_request(alloc)?;
@@ -24,20 +43,16 @@ fn send_async(guest: &mut Guest, alloc: Global, reply: &OuterReply) -> Result<u3
         100,
     )?;
     match row_of(step) {
-        Row::Waits(OuterCall::Start { address, request }, under) => {
-            if address.bytes() != b"h:81".as_slice() {
-                return Err("another address".into());
-            }
-            let want = b"GET /a?b HTTP/1.1\r\nhost: h:81\r\nconnection: close\r\n\r\n";
-            if request.bytes() != want.as_slice() {
-                return Err("another request".into());
+        Row::Waits(call, under) => {
+            if !is_start(&call) {
+                return Err("another call".into());
             }
             match guest.answer(alloc, under, reply)? {
                 Row::Done(number) => Ok(number),
                 Row::Waits(..) => Err("a second call".into()),
             }
         }
-        _ => Err("no start".into()),
+        Row::Done(_) => Err("no start".into()),
     }
 }
 
@@ -98,10 +113,10 @@ fn one_of_two_is_selected(rt: HostRuntime) -> Result<(), Fail> {
         112,
         116,
     )?;
-    let Row::Waits(OuterCall::AnyOf { tickets }, under) = row_of(step) else {
+    let Row::Waits(call, under) = row_of(step) else {
         return Err("no choice is asked for".into());
     };
-    assert_eq!(rt; tickets.items(), [1, 2].as_slice());
+    assert!(rt; is_choice(&call, &[1, 2]));
     let Row::Waits(OuterCall::WaitFor { ticket }, under) = guest.answer(
         alloc,
         under,
