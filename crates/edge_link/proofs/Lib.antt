@@ -4,3 +4,7 @@ pub mod Keeping
 pub mod Responding
 pub mod SentBack
 pub mod SentLines
+pub mod Unique
+pub mod Deciding
+pub mod Heading
+pub mod Splits

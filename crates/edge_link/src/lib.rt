@@ -8,6 +8,7 @@
 mod bodies;
 mod fault;
 mod heads;
+mod laws;
 mod requests;
 mod responses;
 mod targets;
@@ -15,5 +16,6 @@ mod targets;
 pub use bodies::Told;
 pub use fault::ResponseFault;
 pub use heads::Head;
+pub use laws::{one_response_at_most, there_is_a_reading};
 pub use requests::request_bytes;
 pub use responses::read_response;

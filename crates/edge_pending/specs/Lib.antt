@@ -1,0 +1,5 @@
+pub mod Backends
+pub mod Choices
+pub mod Gathers
+pub mod Rows
+pub mod Tables

@@ -1,0 +1,4 @@
+pub mod Handles
+pub mod Held
+pub mod Naming
+pub mod RowsTame
